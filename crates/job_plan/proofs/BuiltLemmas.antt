@@ -10,13 +10,14 @@ use Rattle.job_meaning.specs.Walks.{source_walk}
 use Rattle.prefix_walks.specs.declared.window.Window.{Window}
 use Rattle.job_plan.specs.declared.building.Begun.{Begun}
 use Rattle.job_plan.specs.declared.leg.Link.{Link}
-use Rattle.job_plan.specs.Building.{HasNext, IsClean, all_calm, all_keep, begun_walk, walk_over}
+use Rattle.prefix_walks.specs.Faultless.{AreFaultless}
+use Rattle.job_plan.specs.Building.{AreMaps, HasNext, IsClean, begun_walk, walk_over}
 use Rattle.job_plan.specs.Parts.{legs_in, links_in, number_after, walk_through}
 use Rattle.job_plan.specs.Plans.{ended, folding, finding, linked, scanned, windowed}
 use Rattle.find_ops.specs.Finds.{find_of}
 use Rattle.find_ops.specs.declared.terminal.FindTerminal.TheVariants as terminal
 use Rattle.reduce_ops.specs.declared.op.Op.TheVariants as op
-use Rattle.job_plan.proofs.FirstLemmas.{first_answer, pipe_clean}
+use Rattle.job_plan.proofs.CountLemmas.{first_answer, pipe_clean}
 use Rattle.job_plan.proofs.MapLemmas.{limit_before_maps, pipe_joined, skip_before_maps}
 use Rattle.job_plan.proofs.PartLemmas.{length-stages_of, stages_more}
 use Rattle.job_plan.proofs.WindowLemmas.{clean_scanned, clean_source, clean_window}
@@ -38,11 +39,11 @@ pub one_longer : (gs hs : List Stage) (g : Stage) → hs ≡ gs ++ g ∷ [] → 
 one_longer gs hs g pushed = length-stages_of hs ∙ pushed_length hs gs g pushed ∙ ap suc (sym (length-stages_of gs))
 
 -- a slice after maps that selects positions of what they go over
-pub limit_selects : (n : ℕ) (gs : List AbstractStage) (k : ℕ) → all_keep false gs ≡ true → (t u : Trace) → limited k t ≡ u → (m : ℕ) (env : Numbers) → pipe n gs env u ≡ sliced (limit k) m env (pipe n gs env t)
-limit_selects n gs k keep t u h m env = sym (limit_before_maps n gs keep k env t ∙ ap (pipe n gs env) h)
+pub limit_selects : (n : ℕ) (gs : List AbstractStage) (k : ℕ) → AreMaps gs → (t u : Trace) → limited k t ≡ u → (m : ℕ) (env : Numbers) → pipe n gs env u ≡ sliced (limit k) m env (pipe n gs env t)
+limit_selects n gs k maps t u h m env = sym (limit_before_maps n gs maps k env t ∙ ap (pipe n gs env) h)
 
-pub skip_selects : (n : ℕ) (gs : List AbstractStage) (k : ℕ) → all_keep true gs ≡ true → (t u : Trace) → skipped k t ≡ u → (m : ℕ) (env : Numbers) → pipe n gs env u ≡ sliced (skip k) m env (pipe n gs env t)
-skip_selects n gs k keep t u h m env = sym (skip_before_maps n gs keep k env t ∙ ap (pipe n gs env) h)
+pub skip_selects : (n : ℕ) (gs : List AbstractStage) (k : ℕ) → AreMaps gs → AreFaultless true gs → (t u : Trace) → skipped k t ≡ u → (m : ℕ) (env : Numbers) → pipe n gs env u ≡ sliced (skip k) m env (pipe n gs env t)
+skip_selects n gs k maps calm t u h m env = sym (skip_before_maps n gs maps calm k env t ∙ ap (pipe n gs env) h)
 
 -- a slice that selects positions
 pub window_next : (b new : Begun) (w : Window) (d : AbstractSlice) → b.links.items ≡ [] → (new.scans ≡ b.scans) × (new.links ≡ b.links) → new.window ≡ w
@@ -63,7 +64,7 @@ window_next b new w d none kept window same number selects = record {
 }
 
 -- a fold that keeps the first value finds it
-pub first_found : (b : Begun) → b.links.items ≡ [] → all_calm (stages_of b.stages.list.items) ≡ true → (n : ℕ) (env : Numbers) (ss : List AbstractPlainSource)
+pub first_found : (b : Begun) → b.links.items ≡ [] → AreFaultless true (stages_of b.stages.list.items) → (n : ℕ) (env : Numbers) (ss : List AbstractPlainSource)
     → ended (finding (find_of terminal.First)) n env (begun_walk b env ss) ≡ ended (folding op.First None false) n env (begun_walk b env ss)
 first_found b links calm n env ss =
     let u : Trace = windowed b.window.from b.window.to (scanned (legs_in b.scans.items) env (source_walk ss)) in

@@ -1,17 +1,14 @@
--- Counts after maps that can't have a fault, which leave one item for each that they take.
-use Rattle.std.proofs.Common.{◌≡◌, ℕ, Bool, suc, ◌+◌, ◌≤◌, ◌-◌, ℤ, pos, ◌+ℤ◌, true, false, List, [], ◌∷◌, length, drop, Option, Some, None, Result, refl, sym, ap, subst, ◌∙◌, arith, rules}
+-- Folds that look at no item, or at the first one alone: counts after maps, and those that keep the first value.
+use Rattle.std.proofs.Common.{◌≡◌, ℕ, Bool, suc, ◌+◌, ◌≤◌, ◌-◌, ℤ, pos, ◌+ℤ◌, true, List, [], ◌∷◌, length, drop, Option, Some, None, refl, sym, ap, subst, ◌∙◌, arith, rules, false}
 use Rattle.std.proofs.lemmas.Int.{int_wrap_fits}
 use Rattle.std.proofs.lemmas.List.{append-nil, length-drop, length-take}
 use Rattle.std.specs.Int.{w64}
 use Rattle.lambda_values.specs.Earlier.{Numbers}
-use Rattle.lambda_values.specs.Term.{Long}
-use Rattle.lambda_values.specs.Value.{long_value}
 use Rattle.lambda_values.specs.Wrap.{wrap}
-use Rattle.lambda_values.specs.declared.fault.FaultKind.{FaultKind}
 use Rattle.trace.specs.declared.item.Item.{Item}
 use Rattle.trace.specs.declared.item.End.{End}
 use Rattle.trace.specs.declared.item.End.TheVariants as end
-use Rattle.trace.specs.Stages.{AbstractStage, map, filter, flat_map, image, pipe, stages_of, through}
+use Rattle.trace.specs.Stages.{AbstractStage, pipe, stages_of}
 use Rattle.trace.specs.Trace.{Trace, trace, append}
 use Rattle.reduce_ops.specs.declared.op.Op.{Op}
 use Rattle.reduce_ops.specs.declared.op.Op.TheVariants as op
@@ -25,39 +22,31 @@ use Rattle.job_plan.specs.declared.part.Part.TheVariants as part
 use Rattle.job_plan.specs.declared.ends.Fold.{Fold}
 use Rattle.job_plan.specs.declared.segment.Segment.{Segment}
 use Rattle.job_plan.specs.declared.ends.SegmentEnd.TheVariants as ends
-use Rattle.prefix_walks.specs.Faultless.{never_faults}
-use Rattle.job_plan.specs.Building.{all_keep}
+use Rattle.prefix_walks.specs.Faultless.{AreFaultless}
+use Rattle.job_plan.specs.Building.{AreMaps, IsClean}
 use Rattle.job_plan.specs.Parts.{EndsFor, IsFold, StandsFor, end_in, segment_in}
 use Rattle.prefix_walks.specs.Pieces.{piece_of}
 use Rattle.prefix_walks.specs.Batches.{counted_as}
 use Rattle.prefix_walks.specs.Spans.{span}
-use Rattle.prefix_walks.proofs.FaultlessLemmas.{both, value_there}
-use Rattle.job_plan.proofs.MapLemmas.{first_of}
+use Rattle.trace.proofs.JoinLemmas.{pipe_ended}
+use Rattle.job_plan.proofs.MapLemmas.{first_mapped}
 use Rattle.job_plan.proofs.WalkLemmas.{same_ending}
+use Rattle.find_ops.specs.Finds.{find_of}
+use Rattle.find_ops.specs.declared.terminal.FindTerminal.TheVariants as terminal
+use Rattle.job_meaning.specs.declared.answer.Answer.TheVariants as answer
+use Rattle.job_plan.specs.declared.outcome.Outcome.TheVariants as outcome
+use Rattle.job_plan.specs.Plans.{folding, finding, ended}
 
 -- two walks have equally many items, and one end
 abbrev HasSize : Trace → Trace → Type 0
 HasSize t u = (length u.items ≡ length t.items) × (u.ending ≡ t.ending)
 
-map_keeps : (m : ℕ) (e : Long) (env : Numbers) → never_faults e ≡ true → (xs : List Item) (ending : End) → HasSize (trace xs ending) (through m (map e) env (trace xs ending))
-map_keeps m e env h [] ending = (refl, refl)
-map_keeps m e env h (x ∷ xs) ending =
-    let v = value_there e h x.value env in
-    let later = map_keeps m e env h xs ending in
-    let t : Trace = through m (map e) env (trace xs ending) in
-    let y : Item = record { origin = x.origin; value = v.0 } in
-    let is : append (image m x (long_value e x.value env)) t ≡ first_of y t = ap (λ (r : Result ℤ FaultKind). append (image m x r) t) v.1 in
-    (ap (λ (w : Trace). length w.items) is ∙ ap suc later.0, ap (λ (w : Trace). w.ending) is ∙ later.1)
-
-maps_keep : (m : ℕ) (gs : List AbstractStage) → all_keep true gs ≡ true → (env : Numbers) (t : Trace) → HasSize t (pipe m gs env t)
-maps_keep m [] h env t = (refl, refl)
-maps_keep m (map e ∷ gs) h env t =
-    let p = both (never_faults e) (all_keep true gs) h in
-    let one = map_keeps m e env p.0 t.items t.ending in
-    let later = maps_keep (suc m) gs p.1 env (through m (map e) env t) in
-    (later.0 ∙ one.0, later.1 ∙ one.1)
-maps_keep m (filter p ∷ gs) h env t = absurd (let z : false ≡ true = h in cc)
-maps_keep m (flat_map g ∷ gs) h env t = absurd (let z : false ≡ true = h in cc)
+maps_keep : (m : ℕ) (gs : List AbstractStage) → AreMaps gs → AreFaultless true gs → (env : Numbers) (t : Trace) → HasSize t (pipe m gs env t)
+maps_keep m gs h calm env t = (by t.items t.ending, ap (λ (w : Trace). w.ending) ((calm env).0 m env refl t.items t.ending))
+  where
+    by : (xs : List Item) (e : End) → length (pipe m gs env (trace xs e)).items ≡ length xs
+    by [] e = ap (λ (w : Trace). length w.items) (pipe_ended m gs env e)
+    by (x ∷ xs) e = ap (λ (w : Trace). length w.items) (first_mapped gs h calm m env x xs e).1 ∙ ap suc (by xs e)
 
 -- how many items stand at positions
 piece_size : (from : ℕ) (to : Option ℕ) (t : Trace) → length (piece_of from to t).items ≡ span from to (length t.items)
@@ -91,12 +80,30 @@ counted_end p t counts ending adds last =
 
 -- a part of a segment that counts after maps that can't have a fault
 pub counted_stands : (segment : Segment) (fold : Fold) (p : FoldPart) (from : ℕ) (to : Option ℕ) (t : Trace) (count : ℕ) (ending : End) (env : Numbers)
-    → segment.end ≡ ends.Fold fold → all_keep true (stages_of segment.stages.list.items) ≡ true → count ≡ span from to (length t.items) → ending ≡ (piece_of 0 to t).ending
+    → segment.end ≡ ends.Fold fold → AreMaps (stages_of segment.stages.list.items) → AreFaultless true (stages_of segment.stages.list.items) → count ≡ span from to (length t.items) → ending ≡ (piece_of 0 to t).ending
     → ((u : Trace) → length u.items ≡ count → u.ending ≡ ending → IsFold fold.op fold.start fold.counts p u) → StandsFor (segment_in segment) env (part.Fold p) (piece_of from to t)
-counted_stands segment fold p from to t count ending env e keep few last made =
+counted_stands segment fold p from to t count ending env e maps calm few last made =
     let n = segment.stages.first in
     let gs = stages_of segment.stages.list.items in
     let piece = piece_of from to t in
-    let kept = maps_keep n gs keep env piece in
+    let kept = maps_keep n gs maps calm env piece in
     let stands : IsFold fold.op fold.start fold.counts p (pipe n gs env piece) = made (pipe n gs env piece) (kept.0 ∙ piece_size from to t ∙ sym few) (kept.1 ∙ sym (last ∙ same_ending from to t)) in
     subst (λ d. EndsFor (end_in d) (n + length gs) env (part.Fold p) (pipe n gs env piece)) (sym e) stands
+
+-- ---- folds that keep the first value, of walks that have no item before a fault
+
+one_value : (a : ℤ) (xs : List Item) → fold_from (value_of op.First) a xs ≡ a
+one_value a [] = refl
+one_value a (x ∷ xs) = one_value a xs
+
+pub first_answer : (n : ℕ) (env : Numbers) (xs : List Item) (e : End) → IsClean (trace xs e) → ended (finding (find_of terminal.First)) n env (trace xs e) ≡ ended (folding op.First None false) n env (trace xs e)
+first_answer n env [] end.Done h = refl
+first_answer n env [] (end.Fault f) h = refl
+first_answer n env (x ∷ xs) end.Done h = ap (λ (v : ℤ). outcome.Answer (answer.Optional (Some v))) (sym (one_value x.value xs))
+first_answer n env (x ∷ xs) (end.Fault f) h = absurd (let z : x ∷ xs ≡ [] = h f refl in cc)
+
+-- stages that have no fault leave a walk without an item before a fault
+pub pipe_clean : (m : ℕ) (gs : List AbstractStage) → AreFaultless true gs → (env : Numbers) (t : Trace) → IsClean t → IsClean (pipe m gs env t)
+pipe_clean m gs calm env t clean = λ f e.
+    let none : t.items ≡ [] = clean f (ap (λ (w : Trace). w.ending) (sym ((calm env).0 m env refl t.items t.ending)) ∙ e) in
+    ap (λ (xs : List Item). (pipe m gs env (trace xs t.ending)).items) none ∙ ap (λ (w : Trace). w.items) (pipe_ended m gs env t.ending)

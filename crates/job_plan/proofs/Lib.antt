@@ -2,17 +2,13 @@
 pub mod BuiltLemmas
 pub mod CountLemmas
 pub mod EnoughLemmas
-pub mod FeedLemmas
-pub mod FirstLemmas
 pub mod FrontLemmas
-pub mod ItemCounts
 pub mod LentLemmas
 pub mod LinkLemmas
 pub mod LookLemmas
 pub mod MapLemmas
 pub mod MeaningLemmas
 pub mod NameLemmas
-pub mod NestLemmas
 pub mod PartLemmas
 pub mod PassageLemmas
 pub mod SettleLemmas

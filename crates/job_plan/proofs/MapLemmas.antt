@@ -5,16 +5,17 @@ use Rattle.lambda_values.specs.Earlier.{Numbers}
 use Rattle.lambda_values.specs.Term.{Long, parameter}
 use Rattle.lambda_values.specs.Value.{long_value}
 use Rattle.lambda_values.specs.declared.fault.FaultKind.{FaultKind}
+use Rattle.trace.specs.declared.item.Fault.{Fault}
 use Rattle.trace.specs.declared.item.Item.{Item}
 use Rattle.trace.specs.declared.item.End.{End}
 use Rattle.trace.specs.declared.item.End.TheVariants as end
-use Rattle.trace.specs.Stages.{AbstractStage, map, filter, flat_map, image, pipe, through}
+use Rattle.trace.specs.Stages.{AbstractStage, map, image, pipe, through}
 use Rattle.trace.specs.Trace.{Trace, trace, nothing, append}
 use Rattle.slice_ops.specs.Slices.{limited, skipped}
-use Rattle.prefix_walks.specs.Faultless.{never_faults}
-use Rattle.job_plan.specs.Building.{all_keep}
+use Rattle.prefix_walks.specs.Faultless.{AreFaultless}
+use Rattle.job_plan.specs.Building.{AreMaps, one_or}
+use Rattle.trace.proofs.JoinLemmas.{pipe_ended, pipe_more}
 use Rattle.prefix_walks.proofs.Elements.{drop_none, take_none}
-use Rattle.prefix_walks.proofs.FaultlessLemmas.{both, value_there}
 
 -- ---- `limit` and `skip` of a walk through maps
 
@@ -44,41 +45,51 @@ limited_next n x t = by (nat_lt (length t.items) n) refl (nat_lt (suc (length t.
     by true h false k = let l = ltb-true (length t.items) n h in let m = ltb-false (suc (length t.items)) (suc n) k in absurd (omega (arith, l, m))
     by false h true k = let l = ltb-false (length t.items) n h in let m = ltb-true (suc (length t.items)) (suc n) k in absurd (omega (arith, l, m))
 
-limit_before_map : (m : ℕ) (e : Long) (env : Numbers) (n : ℕ) (xs : List Item) (ending : End) → limited n (through m (map e) env (trace xs ending)) ≡ through m (map e) env (limited n (trace xs ending))
-limit_before_map m e env zero xs ending = limited_none (through m (map e) env (trace xs ending)) ∙ sym (ap (through m (map e) env) (limited_none (trace xs ending)))
-limit_before_map m e env (suc n) [] ending = limited_end n ending ∙ sym (ap (through m (map e) env) (limited_end n ending))
-limit_before_map m e env (suc n) (x ∷ xs) ending =
-    by (long_value e x.value env) (limit_before_map m e env n xs ending) ∙ sym (ap (through m (map e) env) (limited_next n x (trace xs ending)))
+pub no_maps : AreMaps []
+no_maps m env x = (Ok x, refl)
+
+pub more_maps : (e : Long) (gs : List AbstractStage) → AreMaps gs → AreMaps (map e ∷ gs)
+more_maps e gs h m env x = by (long_value e x.value env)
   where
-    by : (r : Result ℤ FaultKind) → limited n (through m (map e) env (trace xs ending)) ≡ through m (map e) env (limited n (trace xs ending))
-        → limited (suc n) (append (image m x r) (through m (map e) env (trace xs ending))) ≡ append (image m x r) (through m (map e) env (limited n (trace xs ending)))
-    by (Ok v) later = limited_next n (record { origin = x.origin; value = v }) (through m (map e) env (trace xs ending)) ∙ ap (first_of (record { origin = x.origin; value = v })) later
-    by (Err k) later = limited_end n _
+    by : (r : Result ℤ FaultKind) → (made : Result Item Fault) × (pipe (suc m) gs env (append (image m x r) nothing) ≡ one_or made)
+    by (Ok v) = h (suc m) env (record { origin = x.origin; value = v })
+    by (Err k) = (Err _, pipe_ended (suc m) gs env _)
 
-skip_before_map : (m : ℕ) (e : Long) (env : Numbers) → never_faults e ≡ true → (n : ℕ) (xs : List Item) (ending : End)
-    → skipped n (through m (map e) env (trace xs ending)) ≡ through m (map e) env (skipped n (trace xs ending))
-skip_before_map m e env h zero xs ending = skip_none (through m (map e) env (trace xs ending)) ∙ sym (ap (through m (map e) env) (skip_none (trace xs ending)))
-skip_before_map m e env h (suc n) [] ending = refl
-skip_before_map m e env h (suc n) (x ∷ xs) ending =
-    let v = value_there e h x.value env in
-    ap (λ (r : Result ℤ FaultKind). skipped (suc n) (append (image m x r) (through m (map e) env (trace xs ending)))) v.1
-    ∙ skip_before_map m e env h n xs ending
+-- what maps make of a first item, and of those after it
+first_made : (gs : List AbstractStage) (h : AreMaps gs) (m : ℕ) (env : Numbers) (x : Item) (xs : List Item) (e : End) → pipe m gs env (trace (x ∷ xs) e) ≡ append (one_or (h m env x).0) (pipe m gs env (trace xs e))
+first_made gs h m env x xs e = pipe_more m gs env (x ∷ []) xs e ∙ ap (λ (t : Trace). append t (pipe m gs env (trace xs e))) (h m env x).1
 
-pub limit_before_maps : (m : ℕ) (gs : List AbstractStage) → all_keep false gs ≡ true → (n : ℕ) (env : Numbers) (t : Trace) → limited n (pipe m gs env t) ≡ pipe m gs env (limited n t)
-limit_before_maps m [] h n env t = refl
-limit_before_maps m (map e ∷ gs) h n env t =
-    let p = both true (all_keep false gs) h in
-    limit_before_maps (suc m) gs p.1 n env (through m (map e) env t) ∙ ap (pipe (suc m) gs env) (limit_before_map m e env n t.items t.ending)
-limit_before_maps m (filter p ∷ gs) h n env t = absurd (let z : false ≡ true = h in cc)
-limit_before_maps m (flat_map g ∷ gs) h n env t = absurd (let z : false ≡ true = h in cc)
+pub limit_before_maps : (m : ℕ) (gs : List AbstractStage) → AreMaps gs → (n : ℕ) (env : Numbers) (t : Trace) → limited n (pipe m gs env t) ≡ pipe m gs env (limited n t)
+limit_before_maps m gs h n env t = by n t.items t.ending
+  where
+    one : (n : ℕ) (r : Result Item Fault) (a b : Trace) → limited n a ≡ b → limited (suc n) (append (one_or r) a) ≡ append (one_or r) b
+    one n (Ok y) a b later = limited_next n y a ∙ ap (first_of y) later
+    one n (Err f) a b later = limited_end n (end.Fault f)
 
-pub skip_before_maps : (m : ℕ) (gs : List AbstractStage) → all_keep true gs ≡ true → (n : ℕ) (env : Numbers) (t : Trace) → skipped n (pipe m gs env t) ≡ pipe m gs env (skipped n t)
-skip_before_maps m [] h n env t = refl
-skip_before_maps m (map e ∷ gs) h n env t =
-    let p = both (never_faults e) (all_keep true gs) h in
-    skip_before_maps (suc m) gs p.1 n env (through m (map e) env t) ∙ ap (pipe (suc m) gs env) (skip_before_map m e env p.0 n t.items t.ending)
-skip_before_maps m (filter p ∷ gs) h n env t = absurd (let z : false ≡ true = h in cc)
-skip_before_maps m (flat_map g ∷ gs) h n env t = absurd (let z : false ≡ true = h in cc)
+    by : (n : ℕ) (xs : List Item) (e : End) → limited n (pipe m gs env (trace xs e)) ≡ pipe m gs env (limited n (trace xs e))
+    by zero xs e = limited_none (pipe m gs env (trace xs e)) ∙ sym (ap (pipe m gs env) (limited_none (trace xs e)) ∙ pipe_ended m gs env end.Done)
+    by (suc n) [] e = ap (limited (suc n)) (pipe_ended m gs env e) ∙ limited_end n e ∙ sym (ap (pipe m gs env) (limited_end n e) ∙ pipe_ended m gs env e)
+    by (suc n) (x ∷ xs) e =
+        let l : Trace = limited n (trace xs e) in
+        ap (limited (suc n)) (first_made gs h m env x xs e)
+        ∙ one n (h m env x).0 (pipe m gs env (trace xs e)) (pipe m gs env l) (by n xs e)
+        ∙ sym (ap (pipe m gs env) (limited_next n x (trace xs e)) ∙ first_made gs h m env x l.items l.ending)
+
+-- maps without a fault make an item of a first item
+pub first_mapped : (gs : List AbstractStage) → AreMaps gs → AreFaultless true gs → (m : ℕ) (env : Numbers) (x : Item) (xs : List Item) (e : End) → (y : Item) × (pipe m gs env (trace (x ∷ xs) e) ≡ first_of y (pipe m gs env (trace xs e)))
+first_mapped gs h calm m env x xs e = by (h m env x).0 (h m env x).1 (first_made gs h m env x xs e)
+  where
+    by : (r : Result Item Fault) → pipe m gs env (trace (x ∷ []) end.Done) ≡ one_or r → pipe m gs env (trace (x ∷ xs) e) ≡ append (one_or r) (pipe m gs env (trace xs e)) → (y : Item) × (pipe m gs env (trace (x ∷ xs) e) ≡ first_of y (pipe m gs env (trace xs e)))
+    by (Ok y) one is = (y, is)
+    by (Err f) one is = absurd (let z : end.Done ≡ end.Fault f = ap (λ (t : Trace). t.ending) (sym ((calm env).0 m env refl (x ∷ []) end.Done) ∙ one) in cc)
+
+pub skip_before_maps : (m : ℕ) (gs : List AbstractStage) → AreMaps gs → AreFaultless true gs → (n : ℕ) (env : Numbers) (t : Trace) → skipped n (pipe m gs env t) ≡ pipe m gs env (skipped n t)
+skip_before_maps m gs h calm n env t = by n t.items t.ending
+  where
+    by : (n : ℕ) (xs : List Item) (e : End) → skipped n (pipe m gs env (trace xs e)) ≡ pipe m gs env (skipped n (trace xs e))
+    by zero xs e = skip_none (pipe m gs env (trace xs e)) ∙ sym (ap (pipe m gs env) (skip_none (trace xs e)))
+    by (suc n) [] e = ap (skipped (suc n)) (pipe_ended m gs env e) ∙ sym (pipe_ended m gs env e)
+    by (suc n) (x ∷ xs) e = ap (skipped (suc n)) (first_mapped gs h calm m env x xs e).1 ∙ by n xs e
 
 -- ---- walks through maps
 

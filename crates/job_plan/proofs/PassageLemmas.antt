@@ -1,5 +1,5 @@
 -- What goes on from a slice in the middle of a walk.
-use Rattle.std.proofs.Common.{◌≡◌, ℕ, List, [], ◌++◌, take, drop, Some, Result, Ok, Err, IfOk, refl, sym, ap, subst, ◌∙◌, append_assoc}
+use Rattle.std.proofs.Common.{◌≡◌, ℕ, List, [], ◌++◌, take, drop, Some, Result, Ok, Err, IfOk, refl, sym, ap, subst, ◌∙◌, append_assoc, None}
 use Rattle.std.proofs.lemmas.List.{append-nil, take-append-drop}
 use Rattle.lambda_values.specs.Earlier.{Numbers}
 use Rattle.trace.specs.declared.item.Item.{Item}
@@ -17,8 +17,12 @@ use Rattle.slice_ops.specs.Slices.{AbstractSlice, sliced}
 use Rattle.job_plan.specs.declared.link_sink.Passage.{Passage}
 use Rattle.job_plan.specs.declared.link_sink.Passage.TheVariants as passage
 use Rattle.job_plan.specs.Passages.{EndsAs, HasPassed, IsAfter, fed_by, onward, passage_flow, through_link}
-use Rattle.job_plan.specs.Plans.{AbstractSegment, walk_of}
-use Rattle.job_plan.proofs.WalkLemmas.{enough_at_last}
+use Rattle.job_plan.specs.Plans.{AbstractSegment, walk_of, AbstractEnd, last_stage}
+use Rattle.job_plan.proofs.WalkLemmas.{enough_at_last, taken_none, piece_in_two, stands_more, stands_fault, stands_enough}
+use Rattle.job_plan.specs.declared.part.Part.{Part}
+use Rattle.job_plan.specs.Parts.{EndsFor, GoesOnFrom, HasTaken, StandsFor}
+use Rattle.prefix_walks.specs.Pieces.{elements}
+use Rattle.prefix_walks.proofs.ScanLemmas.{whole_piece}
 
 -- all items were taken
 pub answered : {T : Type 0} (has : T → List Item → Type 0) (t : T) (xs items : List Item) (p : Passage) → has t (xs ++ items) → IsFed has xs (trace items end.Done) (Ok (fed_by p)) t
@@ -159,3 +163,38 @@ module _ {S : Type 0} (h : S → List Item → Type 0) (f : S → Flow) (begun :
     enough_as passage.Enough e k later ends wants took last enough = settled later took enough
     enough_as (passage.Ended x) e k later ends wants took last enough = ended x k later ends took last
     enough_as passage.Refused e k later ends wants took last enough = absurd ends
+
+-- ---- what a sink makes of the whole walk of a source
+
+-- P holds of the walks that a value describes
+module _ (P : Trace → Type 0) (g : AbstractSegment) (env : Numbers) (t : Trace) where
+  abbrev fed_walk : Trace
+  fed_walk = walk_of g env (trace (elements 0 None t.items) end.Done)
+
+  of_whole : P (append fed_walk (trace [] t.ending)) → P (walk_of g env t)
+  of_whole p = subst P (sym (piece_in_two g env 0 None t) ∙ ap (walk_of g env) (whole_piece t)) p
+
+  pub more_fed : (e : End) → e ≡ t.ending → fed_walk.ending ≡ end.Done → P (append (trace ([] ++ fed_walk.items) end.Done) (trace [] e)) → P (walk_of g env t)
+  more_fed e is done p = of_whole (stands_more P fed_walk t.ending done (subst (λ (k : End). P (append (trace ([] ++ fed_walk.items) end.Done) (trace [] k))) is p))
+
+  pub fault_fed : (f : Fault) → fed_walk.ending ≡ end.Fault f → P (append (trace ([] ++ fed_walk.items) end.Done) (trace [] (end.Fault f))) → P (walk_of g env t)
+  fault_fed f h p = of_whole (stands_fault P fed_walk t.ending f h p)
+
+  pub enough_fed : (k : ℕ) → ((u : Trace) → P (append (trace ([] ++ take k fed_walk.items) end.Done) u)) → P (walk_of g env t)
+  enough_fed k p = of_whole (stands_enough P fed_walk t.ending k p)
+
+  pub none_fed : ((u : Trace) → P (append (trace [] end.Done) u)) → P (walk_of g env t)
+  none_fed p = p (walk_of g env t)
+
+-- a slice before any item
+pub begun_as : {S : Type 0} (h : S → List Item → Type 0) (f : S → Flow) (d e : AbstractSlice) (n : ℕ) (g : AbstractSegment) (env : Numbers) (p : Passage) (s : S) → d ≡ e
+    → HasPassed h f d n g env d p s [] → HasPassed h f e n g env d p s []
+begun_as h f d e n g env p s is x = subst (λ (b : AbstractSlice). HasPassed h f b n g env d p s []) is x
+
+-- ---- from the part of no item
+
+pub stands_after : (s : AbstractSegment) (env : Numbers) (none p : Part) (t : Trace) → EndsFor s.ending (last_stage s) env none nothing → GoesOnFrom s.ending (last_stage s) env none p (walk_of s env t) → StandsFor s env p t
+stands_after s env none p t first on = on.0 nothing first
+
+pub begun_with : (e : AbstractEnd) (n : ℕ) (env : Numbers) (none begun : Part) → none ≡ begun → HasTaken e n env begun none []
+begun_with e n env none begun is = subst (λ (b : Part). HasTaken e n env b none []) is (taken_none e n env none)

@@ -1,38 +1,26 @@
 -- Condition: the route of a job, built stage by stage.
-use Rattle.std.specs.Prelude.{◌≡◌, ◌≤◌, ℕ, suc, Bool, true, false, ◌&&◌, List, [], ◌∷◌, ◌++◌, length}
+use Rattle.std.specs.Prelude.{◌≡◌, ◌≤◌, ℕ, suc, List, [], ◌∷◌, ◌++◌, Result, Ok, Err, length}
 use Rattle.lambda_values.specs.Earlier.{Numbers}
 use Rattle.trace.specs.declared.item.Fault.{Fault}
+use Rattle.trace.specs.declared.item.Item.{Item}
 use Rattle.trace.specs.declared.item.End.TheVariants as end
-use Rattle.trace.specs.Stages.{AbstractStage, map, filter, flat_map}
-use Rattle.trace.specs.Trace.{Trace}
+use Rattle.trace.specs.Stages.{AbstractStage, pipe}
+use Rattle.trace.specs.Trace.{Trace, trace}
 use Rattle.job_language.specs.Jobs.{AbstractPlainSource, AbstractJob}
-use Rattle.prefix_walks.specs.Faultless.{never_faults, test_never_faults}
 use Rattle.job_meaning.specs.Names.{names_in_job}
 use Rattle.job_meaning.specs.Walks.{after_stages, answer_of, fallback_of, source_walk}
 use Rattle.job_plan.specs.declared.building.Begun.{Begun}
 use Rattle.job_plan.specs.Parts.{legs_in, links_in, number_after, walk_through}
 use Rattle.job_plan.specs.Plans.{AbstractPlan, all_placed, legs_answer, linked, scanned, windowed}
 
--- whether stages are all maps; if asked for, maps that can't have a fault
-abbrev pub stage_keeps : Bool → AbstractStage → Bool
-stage_keeps false (map e) = true
-stage_keeps true (map e) = never_faults e
-stage_keeps faultless (filter p) = false
-stage_keeps faultless (flat_map g) = false
+-- one item, or a fault
+abbrev pub one_or : Result Item Fault → Trace
+one_or (Ok x) = trace (x ∷ []) end.Done
+one_or (Err f) = trace [] (end.Fault f)
 
-abbrev pub all_keep : Bool → List AbstractStage → Bool
-all_keep faultless [] = true
-all_keep faultless (g ∷ gs) = stage_keeps faultless g && all_keep faultless gs
-
--- whether stages are maps and filters that can't have a fault
-abbrev pub is_calm : AbstractStage → Bool
-is_calm (map e) = never_faults e
-is_calm (filter p) = test_never_faults p
-is_calm (flat_map g) = false
-
-abbrev pub all_calm : List AbstractStage → Bool
-all_calm [] = true
-all_calm (g ∷ gs) = is_calm g && all_calm gs
+-- stages make one item, or a fault, of each item
+abbrev pub AreMaps : List AbstractStage → Type 0
+AreMaps gs = (m : ℕ) (env : Numbers) (x : Item) → (r : Result Item Fault) × (pipe m gs env (trace (x ∷ []) end.Done) ≡ one_or r)
 
 -- a walk without an item before a fault
 abbrev pub IsClean : Trace → Type 0

@@ -2,8 +2,6 @@
 pub mod Arrays
 pub mod Bases
 pub mod Building
-pub mod EndRows
-pub mod FoldFaults
 pub mod Links
 pub mod Parts
 pub mod Passages

@@ -1,5 +1,5 @@
 -- Condition: what the parts, segments and sources of the program mean.
-use Rattle.std.specs.Prelude.{◌≡◌, ℕ, zero, suc, ℤ, Bool, true, false, if◌then◌else◌, ◌+◌, List, [], ◌∷◌, length, Option, Some, is_some, option_map}
+use Rattle.std.specs.Prelude.{◌≡◌, ℕ, zero, suc, ℤ, Bool, true, false, if◌then◌else◌, ◌+◌, List, [], ◌∷◌, length, Option, Some, is_some, option_map, None}
 use Rattle.lambda_values.specs.Earlier.{Numbers}
 use Rattle.trace.specs.declared.item.Item.{Item}
 use Rattle.trace.specs.declared.item.End.{End}
@@ -17,6 +17,7 @@ use Rattle.find_ops.specs.Parts.{StandsFor as FindStands}
 use Rattle.job_language.specs.Jobs.{sources_of}
 use Rattle.early_stop.specs.Leaving.{IsEnough}
 use Rattle.job_plan.specs.Arrays.{array_of}
+use Rattle.job_plan.specs.Bases.{base_walk}
 use Rattle.prefix_walks.specs.Scans.{scan}
 use Rattle.job_plan.specs.declared.fold_part.FoldPart.{FoldPart}
 use Rattle.job_plan.specs.declared.part.Part.{Part}
@@ -33,9 +34,9 @@ use Rattle.job_plan.specs.declared.leg.Leg.{Leg}
 use Rattle.job_plan.specs.declared.leg.Link.{Link}
 use Rattle.job_plan.specs.declared.plan.JobPlan.{JobPlan}
 use Rattle.job_plan.specs.declared.source.Source.{Source}
-use Rattle.job_plan.specs.Bases.{base_walk}
 use Rattle.prefix_walks.specs.Batches.{counted_as}
 use Rattle.job_plan.specs.Plans.{AbstractEnd, folding, finding, collecting, exactly, scanning, AbstractSegment, AbstractLink, AbstractLeg, AbstractPlan, walk_of, last_stage, windowed}
+use Rattle.trace.specs.declared.item.Fault.{Fault}
 
 -- the end of a segment of the program
 abbrev pub end_in : SegmentEnd → AbstractEnd
@@ -172,13 +173,21 @@ end_keeps_items e = false
 
 -- whether a part keeps items
 abbrev pub keeps_items : Part → Bool
-keeps_items (part.Fold p) = false
-keeps_items (part.Find p) = false
 keeps_items (part.Array c) = true
 keeps_items (part.Prefix p) = true
-keeps_items (part.Exact p) = false
+keeps_items p = false
 
 -- whether a part takes more items
 abbrev pub flow_of : Bool → Flow
 flow_of true = flow.Enough
 flow_of false = flow.More
+
+-- the fault of an end
+abbrev pub end_fault : End → Option Fault
+end_fault end.Done = None
+end_fault (end.Fault f) = Some f
+
+-- the fault in which a fold ended; the other parts have none
+abbrev pub fold_fault : Part → Option Fault
+fold_fault (part.Fold p) = end_fault p.partial.end
+fold_fault p = None

@@ -15,14 +15,14 @@ ghost use Rattle.job_plan.specs.Parts.{end_in, leg_in, legs_in, number_after, wa
 ghost use Rattle.job_plan.specs.Plans.{ended, legs_answer, windowed};
 
 use crate::ends::SegmentEnd;
-use crate::faultless::{all_calm, all_keep, keeps_first};
 use crate::leg::{Leg, Link};
+use crate::maps::are_maps;
 use crate::numbered_stages::NumberedStages;
 use crate::segment::Segment;
 use find_ops::FindTerminal;
 use job_language::{JobStage, Terminal};
 use lambda_values::LongExpr;
-use prefix_walks::{Prefix, Window};
+use prefix_walks::{Prefix, Window, are_faultless};
 use slice_ops::Slice;
 use std::alloc::Global;
 use std::mem;
@@ -70,11 +70,12 @@ impl Begun {
         if !self.links.is_empty() {
             return None;
         }
+        let stages: &[Stage] = &self.stages.list;
         match slice {
-            Slice::Limit(count) if *count > 0 && all_keep(&self.stages.list, false) => {
-                self.window.limited(*count)
+            Slice::Limit(count) if *count > 0 && are_maps(stages) => self.window.limited(*count),
+            Slice::Skip(count) if are_maps(stages) && are_faultless(stages) => {
+                self.window.skipped(*count)
             }
-            Slice::Skip(count) if all_keep(&self.stages.list, true) => self.window.skipped(*count),
             _ => None,
         }
     }
@@ -202,7 +203,7 @@ impl Begun {
             → ended (end_in result) n env (begun_walk self.now env ss)
             ≡ ended (end_in end) n env (begun_walk self.now env ss) }
     {
-        if self.links.is_empty() && keeps_first(&end) && all_calm(&self.stages.list) {
+        if self.links.is_empty() && end.keeps_first() && are_faultless(&self.stages.list) {
             return SegmentEnd::Find(FindTerminal::First);
         }
         end

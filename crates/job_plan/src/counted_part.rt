@@ -11,14 +11,14 @@ ghost use Rattle.job_plan.specs.Parts.{IsFold, StandsFor, segment_in, walk_in};
 ghost use Rattle.prefix_walks.specs.Pieces.{piece_of};
 
 use crate::ends::{Fold, SegmentEnd};
-use crate::faultless::all_keep;
 use crate::fold_part::FoldPart;
+use crate::maps::are_maps;
 use crate::part::Part;
 use crate::segment::Segment;
 use crate::source::Source;
-use prefix_walks::{Window, within};
+use prefix_walks::{Window, are_faultless, within};
 use reduce_ops::{Op, Partial};
-use trace::{End, Item, MAX_SOURCE_SIZE};
+use trace::{End, Item, MAX_SOURCE_SIZE, Stage};
 
 /// The part of the items at these positions, if the segment counts them and its stages are maps that can't have a
 /// fault: it has the number of the positions. `None` also if the source has more than 2^62 items.
@@ -38,7 +38,8 @@ pub(crate) fn counted_part<'p>(
     if !is_count(*fold) {
         return None;
     }
-    if !all_keep(&segment.stages.list, true) {
+    let stages: &[Stage] = &segment.stages.list;
+    if !are_maps(stages) || !are_faultless(stages) {
         return None;
     }
     let size = source.size();

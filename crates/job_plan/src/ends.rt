@@ -1,12 +1,9 @@
 //! What ends a segment, and all that is asked of it but its parts.
 
-ghost use Rattle.std.specs.Prelude.{◌≡◌, option_map};
-ghost use Rattle.find_ops.specs.Finds.{find_of};
+ghost use Rattle.std.specs.Prelude.{◌≡◌, IsTrue, None, false, option_map};
 ghost use Rattle.job_language.specs.Jobs.{terminal_of};
-ghost use Rattle.lambda_values.specs.Term.{truth_of};
-ghost use Rattle.job_plan.specs.EndRows.{end_test, find_test, takes_flags};
 ghost use Rattle.job_plan.specs.Parts.{end_in, fallback_in};
-ghost use Rattle.job_plan.specs.Plans.{end_of};
+ghost use Rattle.job_plan.specs.Plans.{end_of, folding};
 ghost use Rattle.job_meaning.specs.Walks.{number_as};
 
 use crate::fallback::Fallback;
@@ -41,16 +38,6 @@ pub enum SegmentEnd {
     ExactSum,
 }
 
-/// What is asked of an end of any kind, apart from its parts.
-#[derive(Clone, Copy)]
-pub(crate) struct EndRow<'e> {
-    /// The test that it asks of items while it takes them, if it asks one.
-    pub(crate) test: Option<&'e BoolExpr>,
-    /// Whether the items of lanes with flags are to be given with their flags: to a fold, which then moves no value,
-    /// and to `findFirst`, which the first flag decides.
-    pub(crate) takes_flags: bool,
-}
-
 impl SegmentEnd {
     /// A terminal as the end of a segment.
     pub(crate) fn of(terminal: Terminal) -> SegmentEnd
@@ -69,37 +56,38 @@ impl SegmentEnd {
         }
     }
 
-    /// What is asked of it, apart from its parts: one row for each kind.
-    pub(crate) fn row(&self) -> EndRow<'_>
-        ensures test { option_map (λ test. truth_of test.now) result.test ≡ end_test (end_in self.now) }
-        ensures flags { result.takes_flags ≡ takes_flags (end_in self.now) }
-    {
+    /// The test that a match asks of items while it takes them.
+    pub(crate) fn test(&self) -> Option<&BoolExpr> {
         match self {
-            SegmentEnd::Fold(fold) => EndRow {
-                test: None,
-                takes_flags: fold.op.identity().is_some(),
-            },
-            SegmentEnd::Find(find) => EndRow {
-                test: test_of_find(find),
-                takes_flags: matches!(find, FindTerminal::First),
-            },
-            SegmentEnd::Array | SegmentEnd::Prefix(_) | SegmentEnd::ExactSum => EndRow {
-                test: None,
-                takes_flags: false,
-            },
+            SegmentEnd::Find(
+                FindTerminal::AnyMatch(test)
+                | FindTerminal::AllMatch(test)
+                | FindTerminal::NoneMatch(test),
+            ) => Some(test),
+            _ => None,
         }
     }
-}
 
-/// The test that a match asks of items; `findFirst` asks none.
-fn test_of_find(find: &FindTerminal) -> Option<&BoolExpr>
-    ensures { option_map (λ test. truth_of test.now) result ≡ find_test (find_of find.now) }
-{
-    match find {
-        FindTerminal::AnyMatch(test)
-        | FindTerminal::AllMatch(test)
-        | FindTerminal::NoneMatch(test) => Some(test),
-        FindTerminal::First => None,
+    /// Whether the items of lanes with flags are to be given with their flags: to a fold, which then moves no value,
+    /// and to `findFirst`, which the first flag decides. Either way an end takes equal items.
+    pub(crate) fn takes_flags(&self) -> bool {
+        match self {
+            SegmentEnd::Fold(fold) => fold.op.identity().is_some(),
+            SegmentEnd::Find(find) => matches!(find, FindTerminal::First),
+            SegmentEnd::Array | SegmentEnd::Prefix(_) | SegmentEnd::ExactSum => false,
+        }
+    }
+
+    /// Whether it is a fold that keeps the first value, and has no number before it.
+    pub(crate) fn keeps_first(&self) -> bool
+        ensures { IsTrue result → end_in self.now ≡ folding Op.First None false }
+    {
+        match self {
+            SegmentEnd::Fold(fold) => {
+                matches!(fold.op, Op::First) && fold.start.is_none() && !fold.counts
+            }
+            _ => false,
+        }
     }
 }
 

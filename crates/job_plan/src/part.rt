@@ -1,15 +1,15 @@
 //! What a piece of a segment's source gives to the end of the segment.
 
 ghost use Rattle.batch_eval.specs.Batches.{flagged_values, holds};
-ghost use Rattle.std.specs.Prelude.{◌≡◌, ◌<◌, ◌≤◌, ℕ, false, true, List, [], ◌∷◌, is_some, length, map};
-ghost use Rattle.std.specs.Prelude.{IfOk, IfErr, IfNone, IfSome, OnOk, OnErr, if◌then◌else◌};
+ghost use Rattle.std.specs.Prelude.{◌≡◌, ◌<◌, ◌≤◌, ℕ, false, true, List, [], ◌∷◌, is_some, length, map, IfOk};
+ghost use Rattle.std.specs.Prelude.{IfErr, IfNone, IfSome, OnOk, OnErr, if◌then◌else◌};
 ghost use Rattle.lambda_values.specs.Earlier.{Numbers};
 ghost use Rattle.trace.specs.Trace.{Trace, trace, nothing, append};
 ghost use Rattle.trace.specs.declared.item.End.TheVariants as end;
 ghost use Rattle.trace.specs.declared.item.Item.{Item as item};
-ghost use Rattle.job_plan.specs.FoldFaults.{end_fault, fold_fault};
-ghost use Rattle.job_plan.specs.Parts.{EndsFor, StandsFor, end_in, end_keeps_items, is_fault};
-ghost use Rattle.job_plan.specs.Parts.{is_running, is_settled, keeps_items, may_search, number_after, settles};
+ghost use Rattle.job_plan.specs.Parts.{end_fault, fold_fault, EndsFor, StandsFor, end_in, end_keeps_items};
+ghost use Rattle.job_plan.specs.Parts.{is_fault, is_running, is_settled, keeps_items, may_search, number_after};
+ghost use Rattle.job_plan.specs.Parts.{settles};
 ghost use Rattle.job_plan.specs.Plans.{AbstractEnd, AbstractSegment, outcome_of};
 
 use crate::array_part::ArrayPart;

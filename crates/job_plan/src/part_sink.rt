@@ -7,8 +7,8 @@ ghost use Rattle.lambda_values.specs.Earlier.{Numbers};
 ghost use Rattle.trace.specs.Sinks.{IsFed, flow_after};
 ghost use Rattle.trace.specs.declared.item.End.TheVariants as end;
 ghost use Rattle.trace.specs.declared.item.Item.{Item as item};
-ghost use Rattle.job_plan.specs.Parts.{HasTaken, end_in, flow_of, is_settled, keeps_items};
 ghost use Rattle.job_plan.specs.Arrays.{array};
+ghost use Rattle.job_plan.specs.Parts.{HasTaken, end_in, flow_of, is_settled, keeps_items};
 ghost use Rattle.job_plan.specs.declared.part.Part.{Part as part_kept};
 ghost use Rattle.job_plan.specs.declared.part.Part.TheVariants as kept;
 ghost use Rattle.job_plan.specs.declared.ends.SegmentEnd.{SegmentEnd};
@@ -75,7 +75,7 @@ impl<K: EndBrand> BatchSink for PartSink<'_, '_, K> {
     }
 
     fn takes_flags(&self) -> bool {
-        self.last.end.row().takes_flags
+        self.last.end.takes_flags()
     }
 
     fn accept_flagged(&mut self, lanes: FlaggedLanes<'_>) -> Result<Fed, NoMemory> {
@@ -86,7 +86,7 @@ impl<K: EndBrand> BatchSink for PartSink<'_, '_, K> {
     }
 
     fn test(&self) -> Option<&BoolExpr> {
-        self.last.end.row().test
+        self.last.end.test()
     }
 }
 

@@ -4,7 +4,7 @@ ghost use Rattle.std.specs.Prelude.{◌≡◌};
 ghost use Rattle.trace.specs.Trace.{nothing};
 ghost use Rattle.job_plan.specs.Parts.{EndsFor, end_in, end_keeps_items, keeps_items, number_after};
 
-use crate::faultless::all_keep;
+use crate::maps::are_maps;
 use crate::part::Part;
 use crate::segment::Segment;
 use crate::source::Walked;
@@ -30,7 +30,7 @@ pub(crate) fn with_room<'p>(
     ensures keeps { keeps_items result ≡ end_keeps_items (end_in segment.now.end) }
 {
     let part = begun(alloc, segment, window.from, walked.env);
-    if !all_keep(&segment.stages.list, false) {
+    if !are_maps(&segment.stages.list) {
         return part;
     }
     let end = match window.to {

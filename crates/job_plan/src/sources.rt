@@ -54,7 +54,7 @@ fn closed_distance(from: i64, to: i64) -> u64
 }
 
 /// The number of values of a plain source, or the greatest `u64` if it is larger.
-#[tactic(auto, using(crate::proofs::ItemCounts::counted_size, crate::proofs::ItemCounts::counted_least))]
+#[tactic(auto, using(crate::proofs::LentLemmas::counted_size, crate::proofs::LentLemmas::counted_least))]
 pub(crate) fn plain_size(source: &PlainSource) -> u64
     ensures { result ≡ min (length (plain_values (source_of source.now))) (2 ^ 64 - 1) }
 {

@@ -1,4 +1,4 @@
--- How start nodes are claimed and armed, and the lists of those that wait.
+-- How start nodes are claimed and armed, what arrives at them, and the lists of those that wait.
 use Rattle.std.proofs.Common.{◌≡◌, ◌≢◌, ℕ, zero, suc, ◌+◌, ◌-◌, ◌<◌, ◌≤◌, cond, nat_lt, true, List, [], ◌∷◌, ◌++◌, length, set, get_or, sym, refl, ap, ◌∙◌, subst, arith, Some, None, Option, Vec, Global}
 use Rattle.std.proofs.lemmas.Grind.{common_steps}
 use mathlib.Core.Logic.{dite}
@@ -7,7 +7,7 @@ use Rattle.completion_core.specs.Graph.{copies}
 use Rattle.completion_core.specs.Legal.{count, only_at}
 use Rattle.pending_count.specs.declared.view.View.{View}
 use Rattle.pending_count.specs.Views.{left_slot, right_slot, note_of}
-use Rattle.pending_count.specs.Steps.{IsClaimed, IsArmed, drawn_node}
+use Rattle.pending_count.specs.Steps.{IsClaimed, IsArmed, drawn_node, IsArrived}
 use Rattle.pending_count.proofs.SumLemmas.{one_at, at_here, at_else, total-append}
 use Rattle.pending_count.proofs.RecordLemmas.{fresh-count, fresh_here, fresh_else}
 use Rattle.pending_count.proofs.CallerLemmas.{drawn_is, claim_larger, arm_held, arm_note, arm_sides, arm_side_note, arm_note_else, arm_side_note_else}
@@ -16,7 +16,12 @@ use Rattle.job_runner.specs.declared.start.Start.{Start}
 use Rattle.job_runner.specs.declared.start.Waiting.{Waiting}
 use Rattle.job_runner.specs.Starts.{HasStarts, all_waiting, start_nodes, node_at, kept_at, nodes_below}
 use Rattle.job_runner.specs.Waits.{nodes_in}
-use Rattle.job_runner.specs.Tasks.{KnowsStarts}
+use Rattle.job_runner.specs.Tasks.{KnowsStarts, CanArrive}
+use Rattle.atomic_table.specs.Seated.{TableId}
+use Rattle.pending_count.specs.declared.place.Fits.{Ghosts}
+use Rattle.pending_count.specs.declared.seat.Seat.{Seat}
+use Rattle.pending_count.specs.Seats.{view_of}
+use Rattle.completer_tree.specs.Paths.{IsPath, Propagates}
 
 -- one more list of jobs that wait
 pub all_snoc : (i : ℕ) (xs : List (Vec Waiting Global)) (w : Vec Waiting Global) → count i (all_waiting (xs ++ w ∷ [])) ≡ count i (all_waiting xs) + count i (nodes_in w.items)
@@ -201,3 +206,25 @@ pub start_got : (ss : List Start) (k : ℕ) (s : Start) → k < length ss → s 
 start_got [] k s low e = absurd (omega arith)
 start_got (x ∷ ss) zero s low e = (ap (λ (z : Start). z.node) e, ap (λ (z : Start). z.onward.items) e)
 start_got (x ∷ ss) (suc k) s low e = start_got ss k s (omega arith) e
+
+-- ---- arrivals at start nodes, as arrivals along a path of one node
+
+module _ {V K T : Type 0} {g : Ghosts K V T} {id : TableId} {jobs : ℕ} {start : ℕ → ℕ} {keeps : ℕ → List ℕ} where
+  -- who can arrive at a start node can do so along the path of that node alone
+  pub start_path : (job node : ℕ) (seat : Seat V K T g) → job < jobs → node ≡ start job → CanArrive id jobs start keeps job seat → IsPath (node ∷ []) (view_of seat)
+  start_path job node seat low is can =
+      let starts = can.knows.starts in
+      let some : 0 < start job = starts.smaller job 0 low (starts.ends job low) in (
+        subst (λ k. 0 < count k (view_of seat).held) (sym is) can.held,
+        (λ k there.
+            let same : k ≡ node = dite (ℕ_discrete k node) (λ e. e) (λ n. let o = at_else k node (λ e. n (sym e)) in absurd (omega arith)) in
+            (omega arith, (can.no_side (left_slot k), can.no_side (right_slot k)))),
+        tt,
+      )
+
+-- along a path of this kind the arrival was the last, if any node was finished
+pub last_along : {T S : Type 0} {nodes actor : ℕ} (node finished : ℕ) (v w : View T) → Propagates S nodes actor (node ∷ []) v w finished → finished ≢ 0 → (n : ℕ) × (n ≡ 1) × IsArrived S nodes actor node v n w
+last_along {S = S} {nodes = nodes} {actor = actor} node finished v w p some =
+    let one : p.0 ≡ 1 = dite (ℕ_discrete p.0 1) (λ e. e) (λ n. absurd (some (p.3 n).0)) in
+    let rest = p.4 one in
+    (p.0, one, subst (λ z. IsArrived S nodes actor node v p.0 z) (sym rest.2.1) p.2)

@@ -23,15 +23,8 @@ module _ {A X : Type 0} (stands : ℕ → ℕ → ℕ → ℕ → A → Type 0) 
   side_handed cut Right v some h = h
   side_handed cut Whole v some h = absurd (some refl)
 
-  -- what a part or a fault that is handed in says
-  pub handed_part : (job segment from to : ℕ) (v : Result X Failure) (x : X) (p : A) → v ≡ Ok x → found x ≡ Part p → HandedIn stands faults found job segment from to v → stands job segment from to p
-  handed_part job segment from to v x p is part h = subst (IfMerged (stands job segment from to) ⊥) part (subst (HandedIn stands faults found job segment from to) is h)
-
   pub handed_fault : (job segment from to : ℕ) (v : Result X Failure) (f : Fault) → v ≡ Err (failure.Fault f) → HandedIn stands faults found job segment from to v → faults job segment from to f
   handed_fault job segment from to v f is h = subst (HandedIn stands faults found job segment from to) is h
-
-  pub handed_failure : (job segment from to : ℕ) (v : Result X Failure) (e : Failure) (f : Fault) → v ≡ Err e → e ≡ failure.Fault f → HandedIn stands faults found job segment from to v → faults job segment from to f
-  handed_failure job segment from to v e f is fault h = subst (λ (d : Failure). HandedIn stands faults found job segment from to (Err d)) fault (subst (HandedIn stands faults found job segment from to) is h)
 
   -- of a whole segment
   pub whole_part : (size : ℕ → ℕ → ℕ) (job segment : ℕ) (v : Result X Failure) (x : X) (p : A) → v ≡ Ok x → found x ≡ Part p → StandsWhole stands faults size job segment found v → stands job segment 0 (size job segment) p

@@ -2,9 +2,7 @@
 pub mod AnswerLemmas
 pub mod ArmLemmas
 pub mod CaughtLemmas
-pub mod CreditLemmas
 pub mod Halves
 pub mod SameRun
 pub mod SeatLemmas
-pub mod StartLemmas
 pub mod StopLemmas

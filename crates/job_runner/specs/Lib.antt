@@ -4,6 +4,5 @@ pub mod CutLaws
 pub mod Tasks
 pub mod Waits
 pub mod Starts
-pub mod Begins
 pub mod Answers
 pub mod Stops

@@ -2,8 +2,8 @@
 ghost use Rattle.std.specs.Prelude.{◌≡◌, ◌<◌, ◌+◌, ◌-◌, ◌++◌, ◌∷◌, ℕ, [], drop, length};
 ghost use Rattle.completer_tree.specs.Trees.{table_id_of};
 ghost use Rattle.job_runner.specs.Starts.{kept_at, node_at};
-ghost use Rattle.job_runner.specs.Tasks.{CanArrive, HasKept};
 ghost use Rattle.job_runner.specs.Waits.{nodes_in};
+ghost use Rattle.job_runner.specs.Tasks.{CanArrive, HasKept};
 
 use crate::cut::CutPiece;
 use crate::start::{Start, Waiting};

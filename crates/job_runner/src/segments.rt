@@ -3,7 +3,7 @@ ghost use Rattle.std.specs.Prelude.{◌≡◌, ◌+◌, ◌<◌, ◌≤◌, ℕ,
 ghost use Rattle.trace.specs.declared.item.Fault.{Fault};
 ghost use Rattle.trace.specs.Trace.{Trace};
 ghost use Rattle.early_stop.specs.Decisive.{Decides};
-ghost use Rattle.job_runner.specs.Begins.{IsBegun};
+ghost use Rattle.job_runner.specs.Answers.{IsBegun};
 ghost use Rattle.job_runner.specs.Cuts.{IsPiece};
 
 use crate::NoMemory;

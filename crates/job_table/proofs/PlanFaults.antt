@@ -18,20 +18,17 @@ use Rattle.job_plan.specs.declared.outcome.Outcome.TheVariants as outcome
 use Rattle.job_plan.specs.declared.fold_part.FoldPart.{FoldPart}
 use Rattle.job_plan.specs.declared.part.Part.{Part}
 use Rattle.job_plan.specs.declared.part.Part.TheVariants as part
-use Rattle.job_plan.specs.Parts.{EndsFor, is_fault}
+use Rattle.job_plan.specs.Parts.{EndsFor, is_fault, end_fault, fold_fault}
 use Rattle.job_plan.specs.Plans.{AbstractEnd, folding, finding, collecting, exactly, scanning, AbstractPlan, AbstractSegment, ended, folded, given_answer, last_stage, leg_at, legs_answer, walk_of}
-use Rattle.job_plan.specs.FoldFaults.{end_fault, fold_fault}
 use Rattle.prefix_walks.specs.Pieces.{piece_of}
 use Rattle.job_plan.specs.PlannedAnswers.{first_unusable_at}
 use Rattle.prefix_walks.specs.Batches.{counted_as}
 use Rattle.job_meaning.specs.Walks.{instead_of_fault, unless_fault}
-use Rattle.prefix_walks.proofs.SideBySide.{pieces_joined, whole_piece}
+use Rattle.prefix_walks.proofs.ScanLemmas.{pieces_joined, whole_piece}
 use Rattle.job_table.specs.Caught.{FaultAmong, IsCaught}
 use Rattle.job_table.specs.PlanSegments.{AbstractChain, PartStands, answer_of, answers_before, chain_at, gives_at, piece_between, plan_at, size_at, last_leg, walk_at}
-use Rattle.job_table.proofs.PlanAnswers.{answer_there}
-use Rattle.job_table.proofs.PlanParts.{part_decides, size_within}
-use Rattle.job_table.proofs.PlanSources.{legs_there}
-use Rattle.job_table.proofs.PlannedAnswers.{walked_answer}
+use Rattle.job_table.proofs.PlanParts.{answer_there, part_decides, size_within}
+use Rattle.job_table.proofs.PlannedAnswers.{legs_there, walked_answer}
 
 -- the fold that ended in a fault
 pub fold_of : (p : Part) (f : Fault) → fold_fault p ≡ Some f → (fold : FoldPart) × (p ≡ part.Fold fold) × (fold.partial.end ≡ end.Fault f)

@@ -1,5 +1,5 @@
--- Parts of a leg: two side by side, and the one for all positions.
-use Rattle.std.proofs.Common.{◌≡◌, ℕ, suc, ◌+◌, ◌-◌, ◌<◌, ◌≤◌, drop, length, Bool, true, false, List, [], ◌∷◌, Option, Some, None, Result, Ok, Err, IfOk, if◌then◌else◌, ◌==◌, ap, sym, subst, ◌∙◌, refl, arith, eq-eqb, ne_eqb}
+-- Parts of a leg, from the part of no item to the one for all positions, and the answer that it gives.
+use Rattle.std.proofs.Common.{◌≡◌, ℕ, suc, ◌+◌, ◌-◌, ◌<◌, ◌≤◌, drop, length, Bool, true, false, List, [], ◌∷◌, Option, Some, None, Result, Ok, Err, IfOk, if◌then◌else◌, ◌==◌, ap, sym, subst, ◌∙◌, refl, arith, eq-eqb, ne_eqb, zero, get_or}
 use Rattle.trace.specs.Trace.{Trace, append, nothing}
 use Rattle.lambda_values.specs.Earlier.{Numbers}
 use Rattle.job_plan.specs.declared.outcome.Outcome.{Outcome}
@@ -8,17 +8,50 @@ use Rattle.std.proofs.lemmas.List.{length-drop, length-take}
 use Rattle.early_stop.specs.Decisive.{Decides}
 use Rattle.early_stop.specs.Leaving.{IsEnough}
 use Rattle.early_stop.proofs.Leaving.{enough_as, enough_gives, enough_joined, enough_left}
-use Rattle.job_plan.specs.Parts.{EndsFor, StandsEnough, StandsFor, is_running, is_settled, may_search}
+use Rattle.job_plan.specs.Parts.{EndsFor, StandsEnough, StandsFor, is_running, is_settled, may_search, plan_in, plans_in}
 use Rattle.job_plan.specs.Links.{is_linked}
-use Rattle.job_plan.specs.Plans.{AbstractEnd, AbstractLeg, AbstractLink, AbstractSegment, ended, exactly, given_answer, given_walk, last_stage, leg_at, legs_answer, linked, outcome_of, walk_of}
+use Rattle.job_plan.specs.Plans.{AbstractEnd, AbstractLeg, AbstractLink, AbstractSegment, ended, exactly, given_answer, given_walk, last_stage, leg_at, legs_answer, linked, outcome_of, walk_of, AbstractLegs, leg_among, leg_outcome, scanned}
 use Rattle.job_plan.proofs.EnoughLemmas.{whole_enough}
 use Rattle.job_plan.proofs.PartLemmas.{other_ends, settled_decides}
 use Rattle.prefix_walks.specs.Pieces.{piece_of}
 use Rattle.prefix_walks.specs.Spans.{IsNotAfter}
-use Rattle.prefix_walks.proofs.SideBySide.{pieces_joined, whole_piece}
+use Rattle.prefix_walks.proofs.ScanLemmas.{pieces_joined, whole_piece}
 use Rattle.job_plan.proofs.LinkLemmas.{unlinked}
-use Rattle.job_table.specs.PlanSegments.{AbstractChain, PartStands, given_at, gives_at, last_leg, piece_between, positions_of, size_at, source_at, upto, walk_at, walk_size}
-use Rattle.job_table.proofs.PlanAnswers.{answer_there, goes_on}
+use Rattle.job_table.specs.PlanSegments.{AbstractChain, PartStands, given_at, gives_at, last_leg, piece_between, positions_of, size_at, source_at, upto, walk_at, walk_size, passed_on, plan_at}
+use Rattle.job_plan.specs.declared.plan.JobPlan.{JobPlan}
+
+-- the leg after all that end in prefixes
+last_among : (ls : List AbstractLeg) (last : AbstractLeg) → leg_among (length ls) ls last ≡ last
+last_among [] last = refl
+last_among (l ∷ ls) last = last_among ls last
+
+module _ (env : Numbers) where
+  last_passed : (ls : List AbstractLeg) (t : Trace) → passed_on env (length ls) ls t ≡ scanned ls env t
+  last_passed [] t = refl
+  last_passed (l ∷ ls) t = last_passed ls (given_walk (leg_outcome l env t))
+
+  -- the answer of legs is the answer of the last one
+  pub answer_there : (legs : AbstractLegs) (t : Trace) → legs_answer legs env t ≡ given_answer (leg_outcome (leg_at (last_leg legs) legs) env (passed_on env (last_leg legs) legs.scans t))
+  answer_there legs t = sym (λ i. given_answer (leg_outcome (last_among legs.scans legs.last i) env (last_passed legs.scans t i)))
+
+  -- a leg goes over what the one before it gave
+  among_on : (k : ℕ) (ls : List AbstractLeg) (last : AbstractLeg) (t : Trace) → k < length ls → passed_on env (suc k) ls t ≡ given_walk (leg_outcome (leg_among k ls last) env (passed_on env k ls t))
+  among_on k [] last t h = absurd (omega arith)
+  among_on zero (l ∷ ls) last t h = refl
+  among_on (suc k) (l ∷ ls) last t h = among_on k ls last (given_walk (leg_outcome l env t)) (omega arith)
+
+  pub goes_on : (k : ℕ) (legs : AbstractLegs) (t : Trace) → k < last_leg legs → passed_on env (suc k) legs.scans t ≡ given_walk (leg_outcome (leg_at k legs) env (passed_on env k legs.scans t))
+  goes_on k legs t h = among_on k legs.scans legs.last t h
+
+-- a job of the program
+pub plans_length : (js : List JobPlan) → length (plans_in js) ≡ length js
+plans_length [] = refl
+plans_length (j ∷ js) = ap suc (plans_length js)
+
+pub plan_got : (js : List JobPlan) (k : ℕ) (j : JobPlan) → k < length js → j ≡ get_or js k j → plan_in j ≡ plan_at (plans_in js) k
+plan_got [] k j h e = absurd (omega arith)
+plan_got (i ∷ js) zero j h e = ap plan_in e
+plan_got (i ∷ js) (suc k) j h e = plan_got js k j (omega arith) e
 
 upto_middle : (size middle : ℕ) → middle < size → upto size middle ≡ Some middle
 upto_middle size middle h = ap (λ (b : Bool). if b then None else Some middle) (ne_eqb middle size (λ e. omega arith))

@@ -3,10 +3,11 @@ use Rattle.std.specs.Prelude.{◌≡◌, ◌<◌, ◌≤◌, ℕ, List, length, 
 use Rattle.trace.specs.declared.item.Fault.{Fault}
 use Rattle.job_meaning.specs.declared.answer.Answer.{Answer}
 use Rattle.job_plan.specs.declared.part.Part.{Part}
-use Rattle.job_plan.specs.FoldFaults.{fold_fault}
+use Rattle.job_plan.specs.Parts.{fold_fault}
 use Rattle.job_plan.specs.PlannedAnswers.{first_unusable_at}
 use Rattle.job_plan.specs.Plans.{AbstractPlan}
 use Rattle.job_table.specs.PlanSegments.{PartStands, answers_before, chain_at, plan_at, last_leg, size_at}
+use Rattle.std.proofs.Common.{ℕ, ◌≤◌, List, le_trans}
 
 -- a part of this leg of the job ends in this fault; the leg gives the job's answer, by a fold; and the job
 -- gives another answer after a fault
@@ -29,3 +30,19 @@ pub record FaultAmong (plans : List AbstractPlan) (job segment from to : ℕ) (f
   pub piece : Part
   pub stands : PartStands (chain_at plans job) segment begins ends piece
   pub caught : IsCaught plans job segment piece f
+
+-- a fault among some positions is one among more
+pub among_more : (plans : List AbstractPlan) (job segment from to : ℕ) (f : Fault) (a b : ℕ) → a ≤ from → to ≤ b → FaultAmong plans job segment from to f → FaultAmong plans job segment a b f
+among_more plans job segment from to f a b low high h = record {
+  known = h.known;
+  usable = h.usable;
+  begins = h.begins;
+  ends = h.ends;
+  low = le_trans low h.low;
+  ordered = h.ordered;
+  high = le_trans h.high high;
+  within = h.within;
+  piece = h.piece;
+  stands = h.stands;
+  caught = h.caught;
+}

@@ -2,6 +2,4 @@
 pub mod PlanSegments
 pub mod PlanLaws
 pub mod Caught
-pub mod CaughtLaws
 pub mod Sources
-pub mod Takings

@@ -4,11 +4,11 @@ ghost use Rattle.std.specs.Option.{option_map};
 ghost use Rattle.job_language.specs.Jobs.{source_of, sources_of, values};
 ghost use Rattle.job_meaning.specs.Walks.{array_of};
 ghost use Rattle.job_plan.specs.Parts.{plan_in, plans_in};
-ghost use Rattle.job_plan.specs.PlannedAnswers.{all_put_at, array_at, first_unusable_at, number_there};
-ghost use Rattle.job_plan.specs.PlannedAnswers.{numbers_at, place_in, put_at, unusable_there};
+ghost use Rattle.job_plan.specs.PlannedAnswers.{all_put_at, array_at, first_unusable_at, number_there, numbers_at};
+ghost use Rattle.job_plan.specs.PlannedAnswers.{place_in, put_at, unusable_there};
 ghost use Rattle.job_meaning.specs.declared.answer.Answer.{Answer as answers};
 ghost use Rattle.job_meaning.specs.declared.answer.Answer.TheVariants as answer;
-ghost use Rattle.job_runner.specs.Begins.{IsBegun};
+ghost use Rattle.job_runner.specs.Answers.{IsBegun};
 ghost use Rattle.job_table.specs.PlanSegments.{answer_of, answers_before, chain_at, plan_at, size_at};
 
 use crate::plan_parts::positions;

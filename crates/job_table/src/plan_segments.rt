@@ -3,15 +3,13 @@ ghost use Rattle.std.specs.Prelude.{◌≡◌, ◌<◌, ◌≤◌, ℕ, length, 
 ghost use Rattle.job_meaning.specs.declared.answer.Answer.{Answer as answers};
 ghost use Rattle.job_plan.specs.Parts.{plans_in};
 ghost use Rattle.job_plan.specs.Plans.{leg_at};
-ghost use Rattle.job_table.specs.Caught.{FaultAmong, IsCaught};
-ghost use Rattle.job_table.specs.CaughtLaws.{among_more};
+ghost use Rattle.job_table.specs.Caught.{FaultAmong, IsCaught, among_more};
 ghost use Rattle.job_runner.specs.Cuts.{IsPiece};
 ghost use Rattle.early_stop.specs.Decisive.{Decides};
-ghost use Rattle.job_table.specs.PlanSegments.{PartStands, answer_of, chain_at, gives_at};
-ghost use Rattle.job_table.specs.PlanSegments.{leg_divides, last_leg, size_at, walk_at};
-ghost use Rattle.job_table.specs.Sources.{IsKept, one_kept};
+ghost use Rattle.job_table.specs.PlanSegments.{PartStands, answer_of, chain_at, gives_at, leg_divides, last_leg};
+ghost use Rattle.job_table.specs.PlanSegments.{size_at, walk_at};
+ghost use Rattle.job_table.specs.Sources.{IsKept, one_kept, IsTaken, one_taken};
 ghost use Rattle.job_table.specs.PlanLaws.{one_answer};
-ghost use Rattle.job_table.specs.Takings.{IsTaken, one_taken};
 
 use crate::kept::{SegmentSource, Taken};
 use crate::plan_names::different;

@@ -5,8 +5,7 @@ ghost use Rattle.job_meaning.specs.declared.answer.Answer.{Answer as answers};
 ghost use Rattle.job_plan.specs.Parts.{may_search, plans_in};
 ghost use Rattle.job_runner.specs.Cuts.{IsPiece};
 ghost use Rattle.job_table.specs.PlanSegments.{PartStands, answer_of, chain_at, gives_at, last_leg, size_at, walk_at};
-ghost use Rattle.job_table.specs.Sources.{IsKept};
-ghost use Rattle.job_table.specs.Takings.{IsTaken};
+ghost use Rattle.job_table.specs.Sources.{IsKept, IsTaken};
 
 use crate::kept::{SegmentSource, Taken};
 use crate::plan_parts::walked_piece;

@@ -62,12 +62,6 @@ module _ {S T : Type 0} {nodes actor : ℕ} {v w : View T} where
     pub claim_side_notes : w.noted_sides ≡ v.noted_sides
     claim_side_notes = ap (λ (u : View T). u.noted_sides) claim_view
 
-    pub claim_has : 0 < count b w.claims
-    claim_has = let d = drawn_is nodes n b drew in
-        let e : count b w.claims ≡ one_at b (n + 1) + count b v.claims = ap (λ (u : View T). count b u.claims) claim_view in
-        let f : one_at b (n + 1) ≡ 1 = ap (one_at b) (sym d.0) ∙ at_here b in
-        omega arith
-
     pub claim_larger : (i : ℕ) → 0 < count i v.held → i < b
     claim_larger i h = let d = drawn_is nodes n b drew in let e = said.larger i (omega arith) in omega arith
 

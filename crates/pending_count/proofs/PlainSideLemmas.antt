@@ -22,9 +22,6 @@ use Rattle.pending_count.proofs.RuleLemmas.{my_part}
 use Rattle.pending_count.proofs.ArrivalLemmas as arrivals
 
 module _ {V K T : Type 0} (fits : T → Side → V → Type 0) (tag_of : K → T) (place_of : K → Option (Place T)) (nodes : ℕ) (s : State (Option (Slot V K)) (View T)) (g : Graph) (r : Shows nodes s g) (p : Pairing fits tag_of place_of nodes s.homes s.views g.arrivals g.armed g.ran) (id : ℕ) (v : View T) (at : get_elem? s.views id ≡ some v) where
-  abbrev Noted : Type 0
-  Noted = Option (ℕ × (ℕ × (ℕ × T)))
-
   pub my_sides : (k : ℕ) → count k v.sides ≡ one_same (Held id) (p.side k)
   my_sides k = ap (λ (u : View T). count k u.sides) (sym (mine s.views id v at)) ∙ p.mine id k
 

@@ -68,10 +68,6 @@ fresh-count node q i = dite (ℕ_discrete i node)
     (λ e. subst (λ k. count k (copies q node) ≡ only_at node q k) (sym e) (total-ones (one_at node) q node (at_here node) ∙ sym (fresh_here node q)))
     (λ n. total-zeros (one_at i) q node (at_else i node (λ e. n (sym e))) ∙ sym (fresh_else node q i n))
 
-pub one_if_le : (b : Bool) → one_if b ≤ 1
-one_if_le true = omega arith
-one_if_le false = omega arith
-
 -- where k entries are there, a list of k of them is a part of what is there
 pub copies_fit : (node k : ℕ) (held : List ℕ) → k ≤ count node held → (i : ℕ) → count i (copies k node) ≤ count i held
 copies_fit node k held enough i = dite (ℕ_discrete i node)

@@ -1,13 +1,10 @@
 -- The lemmas of this crate; the first line of each file says what they are about.
 pub mod BatchLemmas
-pub mod CheapLemmas
 pub mod Elements
 pub mod FaultlessLemmas
 pub mod FeedLemmas
 pub mod FlaggedFolds
 pub mod PieceLemmas
 pub mod PlacingLemmas
-pub mod PlainLemmas
 pub mod ScanLemmas
-pub mod SideBySide
 pub mod WindowPositions

@@ -1,15 +1,15 @@
 -- Pieces that take items.
-use Rattle.std.proofs.Common.{◌≡◌, ℕ, zero, suc, ◌+◌, All, List, [], ◌∷◌, ◌++◌, append_assoc, take, drop, sym, ap, subst, ◌∙◌, arith}
+use Rattle.std.proofs.Common.{◌≡◌, false, ℕ, zero, suc, ◌+◌, All, List, [], ◌∷◌, ◌++◌, append_assoc, take, drop, sym, ap, subst, ◌∙◌, arith}
 use Rattle.std.proofs.lemmas.List.Elements.{All-append}
 use Rattle.std.proofs.Math.Seq.{take-add}
 use Rattle.trace.specs.declared.item.Item.{Item}
 use Rattle.trace.specs.Stages.{AbstractStage}
 use Rattle.prefix_walks.specs.declared.folded_piece.FoldedPiece.{FoldedPiece}
-use Rattle.prefix_walks.specs.CheapStages.{AreCheap, left_by}
-use Rattle.prefix_walks.proofs.CheapLemmas.{left_both}
+use Rattle.prefix_walks.specs.Faultless.{AreFaultless, left_by}
+use Rattle.prefix_walks.proofs.FaultlessLemmas.{left_both}
 
 -- what stages leave of some items more
-pub lent_next : (gs : List AbstractStage) → AreCheap gs → (xs old before next new : List Item) (taken count : ℕ) → new ≡ before ++ next → next ≡ left_by gs (take count (drop taken xs))
+pub lent_next : (gs : List AbstractStage) → AreFaultless false gs → (xs old before next new : List Item) (taken count : ℕ) → new ≡ before ++ next → next ≡ left_by gs (take count (drop taken xs))
     → before ≡ old ++ left_by gs (take taken xs) → new ≡ old ++ left_by gs (take (taken + count) xs)
 lent_next gs cheap xs old before next new taken count is here so_far =
     is ∙ (λ j. so_far j ++ here j) ∙ append_assoc old (left_by gs (take taken xs)) (left_by gs (take count (drop taken xs)))

@@ -5,7 +5,7 @@ use Rattle.std.proofs.lemmas.List.Concat.{flat_map-append}
 use Rattle.trace.specs.declared.item.Item.{Item}
 use Rattle.trace.specs.declared.item.Fault.{Fault}
 use Rattle.trace.specs.declared.item.End.TheVariants as end
-use Rattle.trace.specs.Trace.{trace}
+use Rattle.trace.specs.Trace.{trace, Trace, append}
 use Rattle.reduce_ops.specs.declared.op.Op.{Op}
 use Rattle.reduce_ops.specs.declared.partial.Partial.{Partial}
 use Rattle.reduce_ops.specs.Folds.{fold_items, reduced}
@@ -16,9 +16,9 @@ use Rattle.prefix_scan.proofs.LoopLemmas.{drop_next, drop_past, fold_none}
 use Rattle.prefix_scan.proofs.ScanLemmas.{fold_all, fold_as, fold_cut, fold_joined, fold_more, length-scan_at, scan_cut, scan_is, scan_more}
 use Rattle.prefix_walks.specs.declared.folded_piece.FoldedPiece.{FoldedPiece}
 use Rattle.prefix_walks.specs.declared.folded_piece.PieceStart.{PieceStart}
-use Rattle.prefix_walks.specs.Pieces.{elements}
-use Rattle.prefix_walks.specs.Spans.{after}
-use Rattle.prefix_walks.proofs.Elements.{elements_both, past_first}
+use Rattle.prefix_walks.specs.Pieces.{elements, piece_of}
+use Rattle.prefix_walks.specs.Spans.{after, IsNotAfter}
+use Rattle.prefix_walks.proofs.Elements.{elements_both, past_first, drop_none, elements_join}
 use Rattle.prefix_walks.specs.Scans.{all_items, items_of, mark, marks_of}
 
 -- the fold of a whole piece, after what lies left of it
@@ -153,3 +153,12 @@ size_step_below q ps w p size bound h is n b =
     let l = length-append (items_of p) (all_items (drop (w + 1) ps)) in
     let k : length (all_items (drop w ps)) ≡ length (items_of p ++ all_items (drop (w + 1) ps)) = ap length (items_step ps w p h is) in
     omega (arith, l, k, n, b)
+
+-- ---- pieces side by side
+
+pub pieces_joined : (t : Trace) (from middle : ℕ) (to : Option ℕ) → from ≤ middle → IsNotAfter middle to → append (piece_of from (Some middle) t) (piece_of middle to t) ≡ piece_of from to t
+pieces_joined t from middle None h k = ap (λ xs. trace xs t.ending) (elements_join from middle None t.items h k)
+pieces_joined t from middle (Some to) h k = ap (λ xs. trace xs end.Done) (elements_join from middle (Some to) t.items h k)
+
+pub whole_piece : (t : Trace) → piece_of 0 None t ≡ t
+whole_piece t = ap (λ xs. trace xs t.ending) (drop_none t.items)

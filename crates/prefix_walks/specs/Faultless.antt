@@ -1,55 +1,45 @@
--- Condition: expressions that have a value at every item.
-use Rattle.std.specs.Prelude.{pos, Bool, true, false, ◌&&◌, not}
-use Rattle.std.specs.Ordering.{int_eq}
-use Rattle.lambda_values.specs.Term.{Long, number, parameter, reference, unary, binary, choose, Truth, literal, compare, opposite, connect, choose_truth}
-use Rattle.lambda_values.specs.declared.operator.UnaryOperator.{UnaryOperator}
-use Rattle.lambda_values.specs.declared.operator.BinaryOperator.{BinaryOperator}
-use Rattle.lambda_values.specs.declared.operator.Faults.{Faults}
-use Rattle.lambda_values.specs.declared.operator.Faults.TheVariants as faults
-use Rattle.lambda_values.specs.Operators.{binary_faults, unary_faults}
+-- Condition: expressions and stages that can't have a fault.
+use Rattle.std.specs.Prelude.{◌≡◌, ◌≤◌, ℕ, ℤ, Bool, true, false, List, [], length, Ok, ⊤}
+use Rattle.std.specs.Coded.{×_prop, Π_prop, Coded-set}
+use Rattle.std.proofs.Props.{props}
+use Rattle.lambda_values.specs.Earlier.{Numbers}
+use Rattle.lambda_values.specs.Term.{Long, Truth}
+use Rattle.lambda_values.specs.Value.{long_value, truth_value}
+use Rattle.trace.specs.contracts.chunk.Chunk as chunks
+use Rattle.trace.specs.declared.item.Item.{Item}
+use Rattle.trace.specs.declared.item.End.{End}
+use Rattle.trace.specs.declared.item.End.TheVariants as end
+use Rattle.trace.specs.Stages.{AbstractStage, pipe}
+use Rattle.trace.specs.Trace.{trace}
 
--- whether an operator with these faults never has one
-abbrev pub is_never : Faults → Bool
-is_never faults.Never = true
-is_never faults.ByZero = false
-is_never faults.Overflow = false
+-- numbers of earlier jobs that can make no difference: equal ones if lambdas may name earlier jobs, else any
+abbrev pub Agree : Bool → Numbers → Numbers → Type 0
+Agree true env other = other ≡ env
+Agree false env other = ⊤
 
--- whether an operator has a value at every operand
-abbrev pub is_total : UnaryOperator → Bool
-is_total o = is_never (unary_faults o)
+-- at each item an expression, or a test, has a value and no fault: one value for all numbers of earlier jobs that agree
+abbrev pub HasValues : Bool → Long → Type 0
+HasValues names e = (env : Numbers) (x : ℤ) → (v : ℤ) × ((other : Numbers) → Agree names env other → long_value e x other ≡ Ok v)
 
--- whether an expression is a number other than 0
-abbrev pub is_divisor : Long → Bool
-is_divisor (number z) = not (int_eq z (pos 0))
-is_divisor (parameter n) = false
-is_divisor (reference name) = false
-is_divisor (unary o a) = false
-is_divisor (binary o a b) = false
-is_divisor (choose c a b) = false
+abbrev pub HasTruths : Bool → Truth → Type 0
+HasTruths names p = (env : Numbers) (x : ℤ) → (b : Bool) × ((other : Numbers) → Agree names env other → truth_value p x other ≡ Ok b)
 
--- whether an operator with these faults never has one with this right operand
-abbrev pub is_never_by : Faults → Long → Bool
-is_never_by faults.Never b = true
-is_never_by faults.ByZero b = is_divisor b
-is_never_by faults.Overflow b = false
+-- what stages leave of items, with these numbers of earlier jobs, and without any
+abbrev pub left_with : Numbers → List AbstractStage → List Item → List Item
+left_with env gs xs = (pipe 0 gs env (trace xs end.Done)).items
 
--- whether an operator has a value at every left operand, with this right one
-abbrev pub is_total_by : BinaryOperator → Long → Bool
-is_total_by o b = is_never_by (binary_faults o) b
+abbrev pub left_by : List AbstractStage → List Item → List Item
+left_by gs xs = left_with [] gs xs
 
--- whether no operator of an expression, or of a test, can have a fault
-abbrev mutual
-  pub never_faults : Long → Bool
-  never_faults (number z) = true
-  never_faults (parameter n) = true
-  never_faults (reference name) = true
-  never_faults (unary o a) = is_total o && never_faults a
-  never_faults (binary o a b) = is_total_by o b && (never_faults a && never_faults b)
-  never_faults (choose c a b) = test_never_faults c && (never_faults a && never_faults b)
+-- stages have no fault of their own: whatever their own numbers are, they leave one list of the items of a walk for all
+-- numbers of earlier jobs that agree, and no more items than it has
+abbrev pub AreFaultless : Bool → List AbstractStage → Type 0
+AreFaultless names gs = (env : Numbers)
+    → ((n : ℕ) (other : Numbers) → Agree names env other → (xs : List Item) (ending : End) → pipe n gs other (trace xs ending) ≡ trace (left_with env gs xs) ending)
+    × ((xs : List Item) → length (left_with env gs xs) ≤ length xs)
 
-  pub test_never_faults : Truth → Bool
-  test_never_faults (literal b) = true
-  test_never_faults (compare o a b) = never_faults a && never_faults b
-  test_never_faults (opposite a) = test_never_faults a
-  test_never_faults (connect o a b) = test_never_faults a && test_never_faults b
-  test_never_faults (choose_truth c a b) = test_never_faults c && (test_never_faults a && test_never_faults b)
+-- no two proofs of that differ
+pub AreFaultless-prop : (names : Bool) (gs : List AbstractStage) → IsProp (AreFaultless names gs)
+AreFaultless-prop names gs = Π_prop λ env. ×_prop
+    (Π_prop λ n. Π_prop λ other. Π_prop λ same. Π_prop λ xs. Π_prop λ ending. Coded-set (chunks.the_row).coded (pipe n gs other (trace xs ending)) (trace (left_with env gs xs) ending))
+    (Π_prop λ xs. hlevel props)

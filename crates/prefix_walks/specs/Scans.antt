@@ -8,9 +8,18 @@ use Rattle.reduce_ops.specs.Operators.{value_of}
 use Rattle.reduce_ops.specs.Parts.{StandsFor as FoldStands}
 use Rattle.prefix_scan.specs.Prefixes.{Range}
 use Rattle.prefix_scan.specs.Scans.{fold_at, scan_at}
-use Rattle.prefix_walks.specs.PieceItems.{items_in}
 use Rattle.prefix_walks.specs.declared.folded_piece.FoldedPiece.{FoldedPiece}
 use Rattle.prefix_walks.specs.declared.folded_piece.PieceStart.{PieceStart}
+use Rattle.trace.specs.Stages.{stages_of}
+use Rattle.prefix_walks.specs.Faultless.{left_by}
+use Rattle.batch_eval.specs.BatchItems.{batch_items}
+use Rattle.prefix_walks.specs.declared.piece_items.PieceItems.{PieceItems}
+use Rattle.prefix_walks.specs.declared.piece_items.PieceItems.TheVariants as piece
+
+-- the items of a piece
+abbrev pub items_in : PieceItems → List Item
+items_in (piece.Stored xs) = xs
+items_in (piece.Worked w) = left_by (stages_of w.stages.stages.now) (batch_items w.lent)
 
 -- the part of a prefix, the stage with this number: its operator, its range, and the walk so far
 pub record AbstractScan : Type 0 where

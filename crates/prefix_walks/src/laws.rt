@@ -6,7 +6,7 @@ ghost use Rattle.prefix_walks.specs.Pieces.{piece_of};
 ghost use Rattle.prefix_walks.specs.Spans.{IsNotAfter};
 
 /// Two pieces of a walk side by side are one piece, and the piece of all positions is the walk.
-#[tactic(auto, using(crate::proofs::SideBySide::pieces_joined, crate::proofs::SideBySide::whole_piece))]
+#[tactic(auto, using(crate::proofs::ScanLemmas::pieces_joined, crate::proofs::ScanLemmas::whole_piece))]
 pub fn pieces_join()
     ensures joined { (t : Trace) (from middle : ℕ) (to : Option ℕ) → from ≤ middle → IsNotAfter middle to
         → append (piece_of from (Some middle) t) (piece_of middle to t) ≡ piece_of from to t }

@@ -5,9 +5,9 @@
 //! Begin with `specs/Scans.antt` and `prefix_part.rt`. A piece of a walk gives its items to a `PrefixPart`, which
 //! stores them in pieces of 1,024 with their folds, or borrows the values and the cheap stages that they come out of.
 //! Two parts side by side merge. `finish` gives a `GivenWalk`, whose items are scanned as `feed_given` takes them
-//! through the stages of the next segment. The folds of batches (`folded`, `folded_flagged`) and the expressions that
-//! can't have a fault (`never_faults`) are of use without a prefix. Not promised: that a value is read once. What cheap
-//! stages leave of a borrowed value is worked out for its fold and again where it is read.
+//! through the stages of the next segment. The folds of batches (`folded`, `folded_flagged`) and the question whether
+//! stages can't have a fault (`are_faultless`) are of use without a prefix. Not promised: that a value is read once.
+//! What cheap stages leave of a borrowed value is worked out for its fold and again where it is read.
 #![tactic(auto)]
 
 mod cheap_stages;
@@ -33,7 +33,7 @@ mod window;
 mod worked;
 
 pub use cheap_stages::CheapStages;
-pub use faultless::{never_faults, test_never_faults};
+pub use faultless::are_faultless;
 pub use folding::{folded, folded_flagged};
 pub use given::GivenWalk;
 pub use laws::pieces_join;

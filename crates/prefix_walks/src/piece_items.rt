@@ -1,7 +1,7 @@
 //! Items of a piece.
 
 ghost use Rattle.std.specs.Prelude.{◌≡◌, length};
-ghost use Rattle.prefix_walks.specs.PieceItems.{items_in};
+ghost use Rattle.prefix_walks.specs.Scans.{items_in};
 
 use crate::piece_buffer::PieceBuffer;
 use crate::stored::Stored;

@@ -3,14 +3,17 @@ use Rattle.trace.specs.Cover.{placed}
 use Rattle.trace.specs.Stages.{stages_of}
 use Rattle.batch_eval.specs.BatchItems.{batch_items}
 use Rattle.job_language.specs.Jobs.{sources_of}
-use Rattle.prefix_walks.specs.CheapStages.{left_by}
+use Rattle.prefix_walks.specs.Faultless.{left_by}
 use Rattle.prefix_walks.specs.Pieces.{elements}
 use Rattle.job_meaning.specs.Walks.{values_of}
-use Rattle.job_plan.proofs.ItemCounts.{first_part}
-use Rattle.job_plan.proofs.LentLemmas.{scanned_both}
-use Rattle.prefix_walks.proofs.CheapLemmas.{left_both}
-use Rattle.job_plan.proofs.PartLemmas.{on_ok_map}
+use Rattle.job_plan.proofs.LentLemmas.{first_part, scanned_both, scanned_none}
+use Rattle.prefix_walks.proofs.FaultlessLemmas.{left_both}
+use Rattle.job_plan.proofs.PartLemmas.{no_items, on_ok_map}
 use Rattle.job_plan.proofs.lent_part.+push_sources.Goals as goal
+
+pub returns-in-None : goal.returns-in-None
+returns-in-None t c =
+    scanned_none c.args.part.now (stages_of c.args.cheap.stages.now) c.args.window.from c.args.window.to c.args.origin c.args.sources.now (no_items c.args.sources.now c.in-None.ensures.cases)
 
 pub returns-in_ok-push_lent-in-Some : goal.returns-in_ok-push_lent-in-Some
 returns-in_ok-push_lent-in-Some t c =

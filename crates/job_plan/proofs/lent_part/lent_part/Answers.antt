@@ -1,14 +1,14 @@
-use Rattle.std.proofs.Common.{◌≡◌, ◌<◌, [], length, sym, ap, subst, ◌∙◌, arith}
+use Rattle.std.proofs.Common.{◌≡◌, ◌<◌, false, [], length, sym, ap, subst, ◌∙◌, arith}
 use Rattle.trace.specs.declared.item.End.TheVariants as end
 use Rattle.trace.specs.Cover.{placed}
 use Rattle.trace.proofs.Sources.{length-placed}
 use Rattle.job_language.specs.Jobs.{sources_of}
 use Rattle.job_meaning.specs.Walks.{values_of}
 use Rattle.job_plan.specs.Bases.{base_walk}
+use Rattle.job_plan.specs.Parts.{number_after, walk_in}
 use Rattle.trace.specs.Stages.{stages_of}
 use Rattle.trace.specs.Trace.{trace, nothing, append}
-use Rattle.prefix_walks.specs.CheapStages.{AreCheap, left_by}
-use Rattle.job_plan.specs.Parts.{number_after, walk_in}
+use Rattle.prefix_walks.specs.Faultless.{AreFaultless, left_by}
 use Rattle.prefix_walks.specs.Pieces.{elements, piece_of}
 use Rattle.prefix_walks.specs.Scans.{scan, scan_append}
 use Rattle.job_plan.proofs.LentLemmas.{lent_stands, piece_again}
@@ -23,7 +23,7 @@ returns-clause-stands c = λ env.
     let from = c.args.window.from in
     let to = c.args.window.to in
     let same : c.in-Some.cheap.stages.now ≡ s.stages.list.items = c.in-Some.ensures ∙ c.deref.ensures.value in
-    let plain : AreCheap gs = subst (λ ss. AreCheap (stages_of ss)) same c.in-Some.cheap.cheap in
+    let plain : AreFaultless false gs = subst (λ ss. AreFaultless false (stages_of ss)) same c.in-Some.cheap.cheap in
     let n = number_after s.stages in
     let none : c.none-part.result ≡ scan p.op p.range n nothing = c.none-part.ensures ∙ ap (λ m. scan p.op p.range m nothing) c.next.ensures in
     let plain_walk = c.in-Plain.plain in

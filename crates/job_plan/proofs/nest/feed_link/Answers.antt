@@ -1,7 +1,6 @@
 use Rattle.std.proofs.Common.{[], sym, subst, ◌∙◌}
 use Rattle.slice_ops.specs.Rests.{rest_of}
-use Rattle.job_plan.proofs.NestLemmas.{begun_as}
-use Rattle.job_plan.proofs.PassageLemmas.{passed_first}
+use Rattle.job_plan.proofs.PassageLemmas.{begun_as, passed_first}
 use Rattle.job_plan.proofs.nest.feed_link.Goals as goal
 
 pub feed-requires-clause-begun : goal.feed-requires-clause-begun

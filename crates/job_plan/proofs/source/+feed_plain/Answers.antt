@@ -7,7 +7,7 @@ use Rattle.prefix_walks.specs.Pieces.{elements}
 use Rattle.job_meaning.specs.Walks.{values_of}
 use Rattle.prefix_walks.proofs.Elements.{elements_none}
 use Rattle.prefix_walks.proofs.FeedLemmas.{fed_none, fed_both, fed_stopped}
-use Rattle.job_plan.proofs.ItemCounts.{first_part}
+use Rattle.job_plan.proofs.LentLemmas.{first_part}
 use Rattle.job_plan.proofs.PartLemmas.{no_items}
 use Rattle.job_plan.proofs.source.+feed_plain.Goals as goal
 

@@ -3,8 +3,7 @@ use Rattle.batch_eval.specs.Pipelines.{piped}
 use Rattle.trace.specs.Trace.{Trace}
 use Rattle.job_plan.specs.Parts.{GoesOnFrom, end_in, leg_in, links_in, walk_in}
 use Rattle.job_plan.specs.Plans.{linked}
-use Rattle.job_plan.proofs.NestLemmas.{begun_with}
-use Rattle.job_plan.proofs.PassageLemmas.{if_ok_map}
+use Rattle.job_plan.proofs.PassageLemmas.{begun_with, if_ok_map}
 use Rattle.job_plan.proofs.streaming.nested.Goals as goal
 
 pub feed-requires-clause-begun : goal.feed-requires-clause-begun

@@ -1,7 +1,6 @@
 use Rattle.job_plan.specs.Parts.{leg_in, segment_in, walk_in}
 use Rattle.job_plan.specs.Plans.{linked}
-use Rattle.job_plan.proofs.NestLemmas.{stands_after}
-use Rattle.job_plan.proofs.PassageLemmas.{if_ok_map}
+use Rattle.job_plan.proofs.PassageLemmas.{stands_after, if_ok_map}
 use Rattle.job_plan.proofs.streaming.streamed.Goals as goal
 
 pub returns-clause-stands : goal.returns-clause-stands

@@ -3,7 +3,7 @@ use Rattle.trace.specs.Trace.{Trace}
 use Rattle.job_plan.specs.Parts.{leg_in, segment_in, walk_in}
 use Rattle.job_plan.specs.Plans.{linked, outcome_of}
 use Rattle.prefix_walks.specs.Pieces.{piece_of}
-use Rattle.prefix_walks.proofs.SideBySide.{whole_piece}
+use Rattle.prefix_walks.proofs.ScanLemmas.{whole_piece}
 use Rattle.job_plan.proofs.LinkLemmas.{unlinked}
 use Rattle.job_plan.proofs.walks.walk_leg.Goals as goal
 

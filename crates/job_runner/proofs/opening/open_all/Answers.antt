@@ -3,7 +3,7 @@ use Rattle.completion_core.specs.Legal.{count}
 use Rattle.pending_count.specs.Seats.{view_of}
 use Rattle.job_runner.specs.Starts.{node_at}
 use Rattle.job_runner.proofs.ArmLemmas.{all_below, starts_known}
-use Rattle.job_runner.proofs.CreditLemmas.{credit_rest, part_unplaced}
+use Rattle.job_runner.proofs.SeatLemmas.{credit_rest, part_unplaced}
 use Rattle.job_runner.proofs.opening.open_all.Goals as goal
 
 pub invariant_of-unopened : goal.invariant_of-unopened

@@ -1,10 +1,17 @@
-use Rattle.std.proofs.Common.{ap, ◌∙◌, arith}
+use Rattle.std.proofs.Common.{◌++◌, sym, ap, ◌∙◌, arith}
+use Rattle.std.proofs.lemmas.List.{append-nil}
 use Rattle.trace.specs.Stages.{stages_of}
-use Rattle.prefix_walks.specs.CheapStages.{left_by}
+use Rattle.prefix_walks.specs.Faultless.{left_by}
 use Rattle.batch_eval.specs.BatchItems.{batch_items}
 use Rattle.prefix_walks.specs.Scans.{all_items}
+use Rattle.prefix_walks.proofs.FaultlessLemmas.{left_none}
 use Rattle.prefix_walks.proofs.PieceLemmas.{lent_next}
 use Rattle.prefix_walks.proofs.prefix_pieces.add_lent.Goals as goal
+
+pub loop-taken-init : goal.loop-taken-init
+loop-taken-init c =
+    let all = all_items c.args.pieces.now.items in
+    (sym (ap (λ xs. all ++ xs) (left_none (stages_of c.args.cheap.stages.now)) ∙ append-nil all), c.requires.folds, omega arith)
 
 pub loop-taken-preserved : goal.loop-taken-preserved
 loop-taken-preserved c =

@@ -1,7 +1,8 @@
-use Rattle.std.proofs.Common.{◌≡◌, ◌<◌, true, false, sym, ap, ◌∙◌, rules}
+use Rattle.std.proofs.Common.{◌<◌, true, refl, sym, ap, ◌∙◌, rules}
 use Rattle.trace.specs.Stages.{pipe, stages_of}
 use Rattle.slice_ops.specs.Slices.{slice_of, sliced}
-use Rattle.job_plan.specs.Building.{all_keep}
+use Rattle.prefix_walks.specs.Faultless.{AreFaultless}
+use Rattle.job_plan.specs.Building.{AreMaps}
 use Rattle.job_plan.specs.Plans.{windowed}
 use Rattle.job_plan.proofs.BuiltLemmas.{limit_selects, skip_selects, some_map}
 use Rattle.job_plan.proofs.WindowLemmas.{limits, skips}
@@ -11,19 +12,20 @@ pub returns-in-Limit-clause-window : goal.returns-in-Limit-clause-window
 returns-in-Limit-clause-window c =
     let b = c.args.self.now in
     let gs = stages_of b.stages.list.items in
-    let keep : all_keep false gs ≡ true = search rules in
+    let maps : AreMaps gs = rw c.deref-stages.ensures.value at (c.if-are_maps.ensures refl) in
     let some : 0 < c.in-Limit.count = search rules in
     some_map c.limited.result
     (λ w h m env t clean.
-    limit_selects b.stages.first gs c.in-Limit.count keep (windowed b.window.from b.window.to t) (windowed w.from w.to t) (limits b.window.from b.window.to c.in-Limit.count w.from w.to t some clean h) m env
+    limit_selects b.stages.first gs c.in-Limit.count maps (windowed b.window.from b.window.to t) (windowed w.from w.to t) (limits b.window.from b.window.to c.in-Limit.count w.from w.to t some clean h) m env
     ∙ sym (ap (λ d. sliced (slice_of d) m env (pipe b.stages.first gs env (windowed b.window.from b.window.to t))) c.in-Limit.is)) c.limited.ensures.some
 
 pub returns-in-Skip-clause-window : goal.returns-in-Skip-clause-window
 returns-in-Skip-clause-window c =
     let b = c.args.self.now in
     let gs = stages_of b.stages.list.items in
-    let keep : all_keep true gs ≡ true = search rules in
+    let maps : AreMaps gs = rw c.deref-stages.ensures.value at (c.if-are_maps-2.ensures refl) in
+    let calm : AreFaultless true gs = rw c.deref-stages.ensures.value at (c.if-are_faultless.ensures refl) in
     some_map c.skipped.result
     (λ w h m env t clean.
-    skip_selects b.stages.first gs c.in-Skip.count keep (windowed b.window.from b.window.to t) (windowed w.from w.to t) (skips b.window.from b.window.to c.in-Skip.count w.from w.to t h) m env
+    skip_selects b.stages.first gs c.in-Skip.count maps calm (windowed b.window.from b.window.to t) (windowed w.from w.to t) (skips b.window.from b.window.to c.in-Skip.count w.from w.to t h) m env
     ∙ sym (ap (λ d. sliced (slice_of d) m env (pipe b.stages.first gs env (windowed b.window.from b.window.to t))) c.in-Skip.is)) c.skipped.ensures.some

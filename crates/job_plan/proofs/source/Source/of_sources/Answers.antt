@@ -1,7 +1,7 @@
 use Rattle.std.proofs.Common.{ap, ◌∙◌}
 use Rattle.job_language.specs.Jobs.{sources_of}
 use Rattle.job_meaning.specs.Walks.{source_walk}
-use Rattle.job_plan.proofs.ItemCounts.{long_walk, short_walk}
+use Rattle.job_plan.proofs.LentLemmas.{long_walk, short_walk}
 use Rattle.job_plan.proofs.source.Source.of_sources.Goals as goal
 
 pub returns-in-Some : goal.returns-in-Some

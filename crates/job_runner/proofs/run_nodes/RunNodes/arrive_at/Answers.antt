@@ -1,6 +1,6 @@
 use Rattle.std.proofs.Common.{◌≢◌, ◌∙◌, arith}
 use Rattle.job_runner.proofs.SeatLemmas.{arrived_kept}
-use Rattle.job_runner.proofs.StartLemmas.{last_along, start_path}
+use Rattle.job_runner.proofs.ArmLemmas.{last_along, start_path}
 use Rattle.job_runner.proofs.run_nodes.RunNodes.arrive_at.Goals as goal
 
 pub propagate_completion-seat-requires-clause-path : goal.propagate_completion-seat-requires-clause-path

@@ -1,6 +1,6 @@
 use Rattle.std.proofs.Common.{◌≡◌, ◌∙◌, length, rules}
 use Rattle.pending_count.specs.Seats.{view_of}
-use Rattle.job_runner.proofs.CreditLemmas.{credit_joined}
+use Rattle.job_runner.proofs.SeatLemmas.{credit_joined}
 use Rattle.job_runner.proofs.run_nodes.RunNodes.pay.Goals as goal
 
 pub invariant_of-result : goal.invariant_of-result

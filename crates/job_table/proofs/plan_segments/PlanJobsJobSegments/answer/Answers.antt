@@ -2,8 +2,8 @@ use Rattle.std.proofs.Common.{ℕ, length, ◌<◌, ◌≡◌, ◌∙◌, ap, sy
 use Rattle.job_meaning.specs.declared.answer.Answer.{Answer}
 use Rattle.job_plan.specs.Parts.{plan_in, plans_in}
 use Rattle.job_table.specs.PlanSegments.{PartStands, answer_of, chain_at, last_leg, size_at}
-use Rattle.job_table.proofs.PlanAnswers.{plans_length}
-use Rattle.job_table.proofs.PlanSources.{answered, legs_there}
+use Rattle.job_table.proofs.PlanParts.{plans_length}
+use Rattle.job_table.proofs.PlannedAnswers.{answered, legs_there}
 use Rattle.job_table.proofs.plan_segments.PlanJobsJobSegments.answer.Goals as goal
 
 pub returns-in-Some : goal.returns-in-Some

@@ -1,6 +1,6 @@
 use Rattle.std.proofs.Common.{length, ◌<◌, ◌≡◌, ◌∙◌, true, false, sym, arith}
 use Rattle.job_plan.specs.Parts.{plan_in, plans_in}
-use Rattle.job_table.proofs.PlanAnswers.{plans_length}
+use Rattle.job_table.proofs.PlanParts.{plans_length}
 use Rattle.job_table.proofs.PlanFaults.{catches_it, piece_fault}
 use Rattle.job_table.proofs.plan_segments.PlanJobsJobSegments.fault.Goals as goal
 

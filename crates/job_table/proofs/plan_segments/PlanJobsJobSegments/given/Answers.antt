@@ -4,8 +4,8 @@ use Rattle.job_plan.specs.declared.plan.Named.{Named}
 use Rattle.job_plan.specs.Parts.{plan_in, plans_in}
 use Rattle.job_plan.specs.PlannedAnswers.{first_unusable_at, numbers_at}
 use Rattle.job_table.specs.PlanSegments.{answers_before}
-use Rattle.job_table.proofs.PlanAnswers.{plans_length}
-use Rattle.job_table.proofs.PlanSources.{known_of, begun_known}
+use Rattle.job_table.proofs.PlanParts.{plans_length}
+use Rattle.job_table.proofs.PlannedAnswers.{known_of, begun_known}
 use Rattle.job_table.proofs.plan_segments.PlanJobsJobSegments.given.Goals as goal
 
 pub returns-in-Known : goal.returns-in-Known

@@ -2,7 +2,7 @@ use Rattle.std.proofs.Common.{◌∙◌, ◌≡◌, ◌<◌, ap, length, List, a
 use Rattle.job_plan.specs.declared.plan.JobPlan.{JobPlan}
 use Rattle.job_plan.specs.Parts.{plans_in}
 use Rattle.job_table.specs.PlanSegments.{plan_at}
-use Rattle.job_table.proofs.PlanAnswers.{plan_got}
+use Rattle.job_table.proofs.PlanParts.{plan_got}
 use Rattle.job_table.proofs.planned.PlanJobs.job.Goals as goal
 
 pub returns : goal.returns

@@ -1,6 +1,6 @@
 use Rattle.std.proofs.Common.{length, ◌<◌, arith}
 use Rattle.job_plan.specs.Parts.{plans_in}
-use Rattle.job_table.proofs.PlanAnswers.{plans_length}
+use Rattle.job_table.proofs.PlanParts.{plans_length}
 use Rattle.job_table.proofs.PlannedAnswers.{answer_before}
 use Rattle.job_table.proofs.planned.PlanJobs.named_answer.Goals as goal
 

@@ -2,7 +2,7 @@ use Rattle.std.proofs.Common.{◌∙◌, ap, sym}
 use Rattle.job_language.specs.Jobs.{sources_of}
 use Rattle.job_plan.specs.Parts.{plan_in, plans_in}
 use Rattle.job_table.specs.PlanSegments.{answers_before, chain_at}
-use Rattle.job_table.proofs.PlanSources.{kept_walk, legs_there, own_first, put_walk}
+use Rattle.job_table.proofs.PlannedAnswers.{kept_walk, legs_there, own_first, put_walk}
 use Rattle.job_table.proofs.planned.PlanJobs.part.Goals as goal
 
 pub returns-in_ok-sources-in-Own-clause-stands : goal.returns-in_ok-sources-in-Own-clause-stands

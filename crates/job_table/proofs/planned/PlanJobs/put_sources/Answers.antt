@@ -2,7 +2,7 @@ use Rattle.job_language.specs.Jobs.{sources_of}
 use Rattle.job_plan.specs.Parts.{plans_in}
 use Rattle.job_plan.specs.PlannedAnswers.{all_put_at}
 use Rattle.job_table.specs.PlanSegments.{answers_before}
-use Rattle.job_table.proofs.PlanSources.{put_more}
+use Rattle.job_table.proofs.PlannedAnswers.{put_more}
 use Rattle.job_table.proofs.planned.PlanJobs.put_sources.Goals as goal
 
 pub loop-source-preserved : goal.loop-source-preserved

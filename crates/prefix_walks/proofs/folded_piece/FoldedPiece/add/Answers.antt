@@ -3,7 +3,7 @@ use Rattle.trace.specs.declared.item.Item.{Item}
 use Rattle.trace.specs.declared.item.End.TheVariants as end
 use Rattle.trace.specs.Trace.{trace}
 use Rattle.reduce_ops.specs.Parts.{StandsFor as FoldStands}
-use Rattle.prefix_walks.specs.PieceItems.{items_in}
+use Rattle.prefix_walks.specs.Scans.{items_in}
 use Rattle.prefix_walks.proofs.folded_piece.FoldedPiece.add.Goals as goal
 
 pub returns-clause-folded : goal.returns-clause-folded
