@@ -74,7 +74,7 @@ module _ (p : ℤ → Bool) (start : Option ℕ) (origins : List ℕ) (values fl
   pub values_flagged : map (λ (x : Item). x.value) (flagged_items p start origins values flags) ≡ flagged_values p values flags (length flags)
   values_flagged = front_values (length flags)
 
-set_flag : (b : Bool) → is_set (flag_of b) ≡ b
+pub set_flag : (b : Bool) → is_set (flag_of b) ≡ b
 set_flag true = refl
 set_flag false = refl
 

@@ -8,7 +8,7 @@ use native.Mathlib.Decide.{ℕ_discrete}
 use Rattle.trace.specs.declared.item.Item.{Item}
 use Rattle.trace.specs.declared.item.End.{End}
 use Rattle.trace.specs.Trace.{Trace, trace}
-use Rattle.batch_eval.specs.Batches.{lanes, item_at, CountsUp}
+use Rattle.batch_eval.specs.Batches.{lanes, item_at, origin_at, CountsUp}
 
 pub length_lanes : (n : ℕ) (g : ℕ → Item) → length (lanes n g) ≡ n
 length_lanes zero g = refl
@@ -67,3 +67,8 @@ lane_values (suc n) start origins values within =
     let g = item_at start origins values in
     let more : take (n + 1) values ≡ take n values ++ get_or values n (pos 0) ∷ [] = take_more values n (pos 0) (omega arith) in
     map-append (λ (x : Item). x.value) (lanes n g) (g n ∷ []) ∙ ap (λ (vs : List ℤ). vs ++ get_or values n (pos 0) ∷ []) (lane_values n start origins values (omega arith)) ∙ sym more ∙ ap (λ (m : ℕ). take m values) (add-one n)
+
+-- the place of a lane depends on what is listed for it alone
+pub same_place : (start : Option ℕ) (xs ys : List ℕ) (k : ℕ) → get_or xs k 0 ≡ get_or ys k 0 → origin_at start xs k ≡ origin_at start ys k
+same_place None xs ys k same = same
+same_place (Some first) xs ys k same = refl

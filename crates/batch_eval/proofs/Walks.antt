@@ -16,7 +16,7 @@ use Rattle.trace.specs.Stages.{map, filter, image, passed, of_item}
 use Rattle.trace.proofs.JoinLemmas.{each_append}
 use Rattle.batch_eval.specs.declared.reached.Reached.{Reached}
 use Rattle.batch_eval.specs.Lanes.{at, flagged, is_set, StopsAt, Reaches}
-use Rattle.batch_eval.specs.Batches.{gathered, lanes, picked, passing, end_after, origin_at, item_at}
+use Rattle.batch_eval.specs.Batches.{gathered, lanes, picked, end_after, origin_at, item_at}
 
 -- equal lists, lane by lane
 pub gathered_same : (n : ℕ) (f g : ℕ → List Item) → ((k : ℕ) → k < n → f k ≡ g k) → gathered n f ≡ gathered n g
@@ -36,14 +36,18 @@ later n (suc m) g within =
     let before = later n m g (omega arith) in
     (before.0 ++ g m, ap (λ (xs : List Item). xs ++ g m) before.1 ∙ append_assoc (gathered n g) before.0 (g m)))
 
+-- lists of items that give items, and no fault
+pub each_gathered : (f : Item → Trace) (ins outs : ℕ → List Item) (n : ℕ) → ((k : ℕ) → k < n → (e : End) → each f (ins k) e ≡ trace (outs k) e) → (e : End) → each f (gathered n ins) e ≡ trace (gathered n outs) e
+each_gathered f ins outs zero gives e = refl
+each_gathered f ins outs (suc n) gives e =
+    let before = each_gathered f ins outs n (λ k below. gives k (omega arith)) end.Done in
+    let here = gives n (omega arith) e in
+    each_append f (trace (gathered n ins) end.Done) (trace (ins n) e) ∙ rw (before, here) refl
+
 module _ (f : Item → Trace) (g : ℕ → Item) (outs : ℕ → List Item) where
   -- lanes that give items, and no fault
   pub each_lane : (n : ℕ) → ((k : ℕ) → k < n → f (g k) ≡ trace (outs k) end.Done) → (e : End) → each f (lanes n g) e ≡ trace (gathered n outs) e
-  each_lane zero gives e = refl
-  each_lane (suc n) gives e =
-      let before = each_lane n (λ k below. gives k (omega arith)) end.Done in
-      let here = gives n (omega arith) in
-      each_append f (trace (lanes n g) end.Done) (trace (g n ∷ []) e) ∙ rw (before, here, append-nil) refl
+  each_lane n gives e = each_gathered f (λ k. g k ∷ []) outs n (λ k below e. let here = gives k below in rw (here, append-nil) refl) e
 
   -- and then one that has a fault
   pub each_stop : (n m : ℕ) → n < m → ((k : ℕ) → k < n → f (g k) ≡ trace (outs k) end.Done) → (fault : Fault) → f (g n) ≡ trace [] (end.Fault fault) → (e : End) → each f (lanes m g) e ≡ trace (gathered n outs) (end.Fault fault)
@@ -68,10 +72,10 @@ each_mapped expr env stage n g column r e h =
     (λ k is. ap (image stage (g k)) is)
     (λ k kind is. ap (image stage (g k)) is)
 
-abbrev kept_if : Bool → Item → List Item
+abbrev pub kept_if : Bool → Item → List Item
 kept_if b x = if b then x ∷ [] else []
 
-passed_flag : (stage : ℕ) (x : Item) (r : Result Bool FaultKind) (z : ℤ) → flagged r ≡ Ok z → passed stage x r ≡ trace (kept_if (is_set z) x) end.Done
+pub passed_flag : (stage : ℕ) (x : Item) (r : Result Bool FaultKind) (z : ℤ) → flagged r ≡ Ok z → passed stage x r ≡ trace (kept_if (is_set z) x) end.Done
 passed_flag stage x (Ok true) z is = let same : negsuc 0 ≡ z = cc in subst (λ (z : ℤ). passed stage x (Ok true) ≡ trace (kept_if (is_set z) x) end.Done) same refl
 passed_flag stage x (Ok false) z is = let same : pos 0 ≡ z = cc in subst (λ (z : ℤ). passed stage x (Ok false) ≡ trace (kept_if (is_set z) x) end.Done) same refl
 passed_flag stage x (Err kind) z is = cc
@@ -111,13 +115,3 @@ module _ (env : Numbers) (stage live : ℕ) (start : Option ℕ) (origins : List
       let here : Reaches (λ k. long_value expr (at values k) env) (at out) live r = subst (λ (xs : List ℤ). Reaches (λ k. long_value expr (at xs k) env) (at out) live r) vs h in
       let one = each_mapped expr env stage live (item_at start origins values) (at out) r e here in
       subst (λ (t : Trace). trace (lanes r.live (item_at start origins new_values)) new_end ≡ each (of_item stage (map expr) env) t.items t.ending) seen (rw (ws, es, os) (sym one))
-
-  -- the batch after `filter`
-  pub batch_filtered : (test : Truth) (old_values new_values flags : List ℤ) (old_origins new_origins : List ℕ) (new_end : End) (kept : ℕ) → Reaches (λ k. flagged (truth_value test (at old_values k) env)) (at out) live r → old_values ≡ values → flags ≡ out → old_origins ≡ origins → new_end ≡ end_after e stage (origin_at start old_origins r.live) r.fault → kept ≡ length (passing flags r.live) → ((j : ℕ) → j < kept → at new_values j ≡ at values (get_or (passing flags r.live) j 0)) → ((j : ℕ) → j < kept → get_or new_origins j 0 ≡ origin_at start origins (get_or (passing flags r.live) j 0)) → trace (lanes live (item_at start origins values)) e ≡ t → trace (lanes kept (item_at None new_origins new_values)) new_end ≡ each (of_item stage (filter test) env) t.items t.ending
-  batch_filtered test old_values new_values flags old_origins new_origins new_end kept h vs fs os es count new_value new_origin seen =
-      let g = item_at start origins values in
-      let here : Reaches (λ k. flagged (truth_value test (at values k) env)) (at flags) live r = subst (λ (xs : List ℤ). Reaches (λ k. flagged (truth_value test (at values k) env)) (at xs) live r) (sym fs) (subst (λ (xs : List ℤ). Reaches (λ k. flagged (truth_value test (at xs k) env)) (at out) live r) vs h) in
-      let one = each_filtered test env stage live g (at flags) r e here in
-      let items : lanes kept (item_at None new_origins new_values) ≡ lanes kept (λ j. g (get_or (passing flags r.live) j 0)) = lanes_same kept (item_at None new_origins new_values) (λ j. g (get_or (passing flags r.live) j 0)) (λ j below. let a = new_value j below in let b = new_origin j below in cc) in
-      let all = items ∙ ap (λ (n : ℕ). lanes n (λ j. g (get_or (passing flags r.live) j 0))) count ∙ gathered_picked (λ k. is_set (at flags k)) g r.live in
-      subst (λ (t : Trace). trace (lanes kept (item_at None new_origins new_values)) new_end ≡ each (of_item stage (filter test) env) t.items t.ending) seen (rw (all, es, os) (sym one))

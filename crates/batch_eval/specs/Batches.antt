@@ -8,6 +8,7 @@ use Rattle.trace.specs.declared.item.End.{End}
 use Rattle.trace.specs.declared.item.End.TheVariants as end
 use Rattle.trace.specs.declared.feeding.Fed.{Fed}
 use Rattle.trace.specs.declared.feeding.Fed.TheVariants as fed
+use Rattle.trace.specs.Trace.{Trace, trace}
 use Rattle.batch_eval.specs.Lanes.{at, is_set}
 use Rattle.batch_eval.specs.NumberTests.{masked}
 use Rattle.batch_eval.specs.declared.number_test.NumberTest.{NumberTest}
@@ -69,6 +70,16 @@ holds t z = comparison_value t.comparison (masked t.mask z) t.number
 -- the items of lanes whose flag is set, one after the other
 abbrev pub flagged_items : (ℤ → Bool) → Option ℕ → List ℕ → List ℤ → List ℤ → List Item
 flagged_items set start origins values flags = gathered (length flags) (λ k. if set (at flags k) then item_at start origins values k ∷ [] else [])
+
+-- the items whose flag is set, one after the other
+abbrev pub set_items : List ℤ → List Item → List Item
+set_items flags [] = []
+set_items [] (x ∷ xs) = []
+set_items (f ∷ flags) (x ∷ xs) = if is_set f then x ∷ set_items flags xs else set_items flags xs
+
+-- a walk over the items whose flag is set
+abbrev pub flagged_walk : List ℤ → Trace → Trace
+flagged_walk flags t = trace (set_items flags t.items) t.ending
 
 -- the values of the first n lanes whose flag is set, one after the other
 abbrev pub flagged_values : (ℤ → Bool) → List ℤ → List ℤ → ℕ → List ℤ

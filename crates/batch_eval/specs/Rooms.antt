@@ -45,9 +45,13 @@ FitsStage (map e) room = Fits e room
 FitsStage (filter p) room = FitsTest p room
 FitsStage (flat_map i) room = Unit {0}
 
+abbrev pub FitsEach : List AbstractStage → ℕ → Type 0
+FitsEach [] room = Unit {0}
+FitsEach (g ∷ gs) room = FitsStage g room × FitsEach gs room
+
+-- a register of flags, and then each stage
 abbrev pub FitsStages : List AbstractStage → ℕ → Type 0
-FitsStages [] room = Unit {0}
-FitsStages (g ∷ gs) room = FitsStage g room × FitsStages gs room
+FitsStages gs room = (1024 ≤ room) × FitsEach gs (room - 1024)
 
 -- how large an expression is; its parts are smaller
 abbrev pub size : LongExpr → ℕ

@@ -101,13 +101,7 @@ pub(crate) fn merge(
 }
 
 /// One operand into the lanes whose flag is set, and another one into the others.
-pub(crate) fn select<A: Lanes<i64>, B: Lanes<i64>>(
-    flags: &[i64],
-    a: A,
-    b: B,
-    live: usize,
-    out: &mut [i64],
-)
+pub(crate) fn select<A: Lanes, B: Lanes>(flags: &[i64], a: A, b: B, live: usize, out: &mut [i64])
     requires flags { live ≤ length flags.now }
     requires a { live ≤ A.count a }
     requires b { live ≤ B.count b }

@@ -60,7 +60,7 @@ pub(crate) fn by_infix(
 }
 
 /// An operator between lanes and another operand.
-fn by_infix_lanes<A: Lanes<i64>>(
+fn by_infix_lanes<A: Lanes>(
     op: Infix,
     a: A,
     beside: Beside<'_>,
@@ -80,14 +80,7 @@ fn by_infix_lanes<A: Lanes<i64>>(
 }
 
 /// An operator between lanes after a step and a number.
-fn by_number<A: Lanes<i64>>(
-    op: Infix,
-    a: A,
-    step: Step,
-    y: i64,
-    live: usize,
-    out: &mut [i64],
-) -> Reached
+fn by_number<A: Lanes>(op: Infix, a: A, step: Step, y: i64, live: usize, out: &mut [i64]) -> Reached
     requires a { live ≤ A.count a }
     requires out { live ≤ length out.old }
     ensures { Reaches (λ k. infix_value op (step_value step (A.number a (at out.old k) k)) y)
@@ -137,7 +130,7 @@ macro_rules! by_name {
 }
 
 /// An operator between lanes and another operand, by its loop for any operands.
-fn by_operator<A: Lanes<i64>>(
+fn by_operator<A: Lanes>(
     op: Infix,
     a: A,
     beside: Beside<'_>,
@@ -160,7 +153,7 @@ fn by_operator<A: Lanes<i64>>(
 }
 
 /// An operator of two numbers between lanes and another operand.
-fn by_binary<A: Lanes<i64>>(
+fn by_binary<A: Lanes>(
     operator: BinaryOperator,
     a: A,
     beside: Beside<'_>,
@@ -181,7 +174,7 @@ fn by_binary<A: Lanes<i64>>(
 /// An exact operator and a number: the wrapping operator, where no operand is out of these bounds. Where it is called a
 /// compiler sees which of the bounds need no look.
 #[inline(always)]
-fn by_exact_number<K: Kernel, W: Kernel, A: Lanes<i64>>(
+fn by_exact_number<K: Kernel, W: Kernel, A: Lanes>(
     bounds: (i64, i64),
     a: A,
     y: i64,
@@ -204,7 +197,7 @@ fn by_exact_number<K: Kernel, W: Kernel, A: Lanes<i64>>(
 /// no operand needs more than 32 bits; by its reciprocal if it has one; else as the processor divides. If no operand is
 /// below 0 either, nothing is done for signs.
 #[tactic(auto, using(crate::proofs::ReciprocalLemmas::within_64, crate::proofs::ReciprocalLemmas::short_within, crate::proofs::ReciprocalLemmas::natural_within))]
-fn by_divisor<P: Kernel, D: Division, K: Kernel, A: Lanes<i64>>(
+fn by_divisor<P: Kernel, D: Division, K: Kernel, A: Lanes>(
     a: A,
     y: i64,
     live: usize,

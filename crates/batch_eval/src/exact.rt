@@ -38,12 +38,7 @@ pub(crate) fn differences_within(y: i64) -> (i64, i64)
 }
 
 /// Whether each of these lanes is within two bounds. There is no early end, so that the loop has no branch.
-pub(crate) fn lanes_within<A: Lanes<i64>>(
-    a: A,
-    bounds: (i64, i64),
-    live: usize,
-    out: &[i64],
-) -> bool
+pub(crate) fn lanes_within<A: Lanes>(a: A, bounds: (i64, i64), live: usize, out: &[i64]) -> bool
     requires a { live ≤ A.count a }
     requires out { live ≤ length out.now }
     ensures { IsTrue result → (k : ℕ) → k < live
@@ -60,7 +55,7 @@ pub(crate) fn lanes_within<A: Lanes<i64>>(
 
 /// Whether a test is as it is wanted at each of these lanes. There is no early end, so that the
 /// loop has no branch.
-pub(crate) fn lanes_pass<A: Lanes<i64>>(a: A, test: NumberTest, wanted: bool, live: usize) -> bool
+pub(crate) fn lanes_pass<A: Lanes>(a: A, test: NumberTest, wanted: bool, live: usize) -> bool
     requires { live ≤ A.count a }
     ensures { IsTrue result → (k : ℕ) → k < live
         → holds test (A.number a (pos 0) k) ≡ wanted }

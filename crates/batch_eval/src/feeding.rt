@@ -168,8 +168,8 @@ fn feed_piece<S: BatchSink>(
     }
 }
 
-/// Takes up to 1,024 items whose values lie side by side. A `map` or a `filter` that comes first, and a sink, read them
-/// there.
+/// Takes up to 1,024 items whose values lie side by side. A `map` that comes first reads them there, and so do a sink
+/// and the only `filter` before one that takes flags.
 fn feed_in_place<S: BatchSink>(
     line: Pipeline<'_>,
     lanes: LaneItems<'_>,
@@ -191,8 +191,7 @@ fn feed_in_place<S: BatchSink>(
     };
     if sink.takes_flags() && later.stages.is_empty() {
         if let Stage::Filter(test) = stage {
-            let flags = &mut space.batch.spare;
-            return give_passing(test, line, lanes, End::Done, flags, &mut space.room, sink);
+            return give_passing(test, line, lanes, End::Done, &mut space.room, sink);
         }
     }
     let later = space.batch.begin(lanes, line, &mut space.room);

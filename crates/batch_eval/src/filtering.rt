@@ -1,34 +1,60 @@
 //! Filters of a batch.
+//!
+//! A `filter` writes a flag for each lane, and moves nothing. Stages after it may go over all lanes, whatever their
+//! flags are, and a further `filter` clears flags. As long as most lanes pass, that is faster than to move their items.
 
-ghost use Rattle.batch_eval.specs.Batches.{laid_items};
+ghost use Rattle.batch_eval.specs.Batches.{flagged_walk};
 ghost use Rattle.batch_eval.specs.Lanes.{at};
-ghost use Rattle.batch_eval.specs.Rooms.{FitsTest};
+ghost use Rattle.batch_eval.specs.Pipelines.{piped};
+ghost use Rattle.batch_eval.specs.Rooms.{FitsEach, FitsTest};
 ghost use Rattle.lambda_values.specs.Term.{truth_of};
-ghost use Rattle.std.specs.Prelude.{◌≡◌, ◌<◌, ◌≤◌, None, Some, length};
-ghost use Rattle.trace.specs.Stages.{filter, of_item};
+ghost use Rattle.std.specs.Prelude.{◌≡◌, ℕ, ◌<◌, ◌≤◌, length};
+ghost use Rattle.trace.specs.Stages.{filter, of_item, stages_of};
 ghost use Rattle.trace.specs.Trace.{each};
 
 use crate::batch::{Batch, stopped};
-use crate::keep::{keep_from, keep_lanes};
-use crate::lane_items::LaneItems;
+use crate::cheap::is_cheap;
+use crate::choose::select;
+use crate::keep::keep_lanes;
+use crate::lanes::{Number, Own};
 use crate::pipeline::Pipeline;
-use crate::register::{Inputs, eval_bool};
+use crate::register::{Inputs, Operand, eval_bool, eval_long};
 use lambda_values::BoolExpr;
-use trace::End;
+use std::mem;
+use trace::Stage;
+
+/// Whether at least half of the first flags are set. A flag that is set is -1: their sum needs no branch.
+fn most_are_set(flags: &[i64], live: usize) -> bool
+    requires few { live ≤ 1024 }
+    requires flags { live ≤ length flags.now }
+{
+    let mut set: i64 = 0;
+    for lane in 0..live {
+        set = set.wrapping_sub(flags[lane]);
+    }
+    set >= live as i64 / 2
+}
 
 impl Batch {
-    /// `filter` of `LongStream`: the items at which the test is true, moved to the front.
-    pub(crate) fn filter(&mut self, test: &BoolExpr, line: Pipeline<'_>, room: &mut [i64])
-        requires { FitsTest (truth_of test.now) (length room.old) }
-        ensures { self.new ≡ each (of_item line.entry.first (filter (truth_of test.now)) line.entry.env.now)
-            self.old.items self.old.ending }
+    /// `filter` of `LongStream`, but no item is moved: those of the lanes whose flag is set pass.
+    pub(crate) fn flag_lanes(
+        &mut self,
+        test: &BoolExpr,
+        line: Pipeline<'_>,
+        flags: &mut [i64],
+        room: &mut [i64],
+    )
+        requires flags { length flags.old ≡ 1024 }
+        requires room { FitsTest (truth_of test.now) (length room.old) }
+        ensures { flagged_walk flags.new self.new ≡ each (of_item line.entry.first (filter (truth_of test.now))
+            line.entry.env.now) self.old.items self.old.ending }
     {
         let inputs = Inputs {
             env: line.env,
             xs: &self.values,
             live: self.live,
         };
-        let reached = eval_bool(test, inputs, &mut self.spare, room);
+        let reached = eval_bool(test, inputs, flags, room);
         self.end = stopped(
             self.end,
             line.first,
@@ -37,48 +63,59 @@ impl Batch {
             &self.origins,
             reached,
         );
-        self.live = keep_lanes(
-            &self.spare,
-            reached.live,
-            self.start,
-            &mut self.values,
-            &mut self.origins,
-        );
-        self.start = None;
+        self.live = reached.live;
     }
 
-    /// Starts again with the items that lie elsewhere at which the test is true.
-    pub(crate) fn filter_from(
+    /// Goes through `map`s and `filter`s over all lanes, as long as most flags are set, an expression is cheap, and no
+    /// lane has a fault. The result are the stages to come.
+    pub(crate) fn sift<'a>(
         &mut self,
-        lanes: LaneItems<'_>,
-        test: &BoolExpr,
-        line: Pipeline<'_>,
+        line: Pipeline<'a>,
+        flags: &mut [i64],
         room: &mut [i64],
-    )
-        requires lanes { length lanes.values.now ≤ 1024 }
-        requires room { FitsTest (truth_of test.now) (length room.old) }
-        ensures { self.new ≡ each (of_item line.entry.first (filter (truth_of test.now)) line.entry.env.now)
-            (laid_items lanes.entry.start lanes.entry.places.now lanes.entry.values.now) End.Done }
+    ) -> Pipeline<'a>
+        requires flags { length flags.old ≡ 1024 }
+        requires room { FitsEach (stages_of line.stages.now) (length room.old) }
+        ensures walk { piped result (flagged_walk flags.new self.new)
+            ≡ piped line.entry (flagged_walk flags.old self.old) }
+        ensures fewer { length result.stages.now ≤ length line.entry.stages.now }
+        ensures room { FitsEach (stages_of result.stages.now) (length room.old) }
     {
-        let live = lanes.values.len();
         let inputs = Inputs {
             env: line.env,
-            xs: lanes.values,
-            live,
+            xs: &self.values,
+            live: self.live,
         };
-        let reached = eval_bool(test, inputs, &mut self.spare, room);
-        self.end = stopped(
-            End::Done,
-            line.first,
-            live,
-            lanes.start,
-            lanes.places,
-            reached,
-        );
-        self.live = keep_from(
-            &self.spare,
-            reached.live,
-            lanes,
+        match line.split_first() {
+            Some((Stage::Map(image), later))
+                if is_cheap(Operand::Long(image)) && most_are_set(flags, self.live) => {
+                if eval_long(image, inputs, &mut self.spare, room).live < self.live {
+                    return line;
+                }
+                mem::swap(&mut self.values, &mut self.spare);
+                self.sift(later, flags, room)
+            }
+            Some((Stage::Filter(test), later))
+                if is_cheap(Operand::Bool(test)) && most_are_set(flags, self.live) => {
+                if eval_bool(test, inputs, &mut self.spare, room).live < self.live {
+                    return line;
+                }
+                select(&self.spare, Own, Number(0), self.live, flags);
+                self.sift(later, flags, room)
+            }
+            _ => line,
+        }
+    }
+
+    /// Moves the items of the lanes whose flag is set to the front.
+    pub(crate) fn keep(&mut self, flags: &[i64])
+        requires { length flags.now ≡ 1024 }
+        ensures { self.new ≡ flagged_walk flags.now self.old }
+    {
+        self.live = keep_lanes(
+            flags,
+            self.live,
+            self.start,
             &mut self.values,
             &mut self.origins,
         );

@@ -1,25 +1,26 @@
-//! Lanes with a flag each, as a `filter` that comes last gives them to a sink: nothing is moved. A flag is what the
-//! test compares with a number, if it is such a comparison; else it is a boolean.
+//! Lanes with a flag each, as filters give them to a sink: nothing is moved. A flag is what the test of the one filter
+//! compares with a number, if it is such a comparison; else it is a boolean.
 
-ghost use Rattle.batch_eval.specs.Batches.{CountsUp, StopsInside, flagged_items, holds, item_at, laid_items};
+ghost use Rattle.batch_eval.specs.Batches.{CountsUp, StopsInside, flagged_items, flagged_walk, holds};
+ghost use Rattle.batch_eval.specs.Batches.{item_at, laid_items};
 ghost use Rattle.batch_eval.specs.Choices.{at_each};
 ghost use Rattle.batch_eval.specs.Lanes.{Reaches, at, flag_of, flagged};
 ghost use Rattle.batch_eval.specs.Rooms.{FitsTest};
 ghost use Rattle.lambda_values.specs.Term.{truth_of};
 ghost use Rattle.lambda_values.specs.Value.{truth_value};
-ghost use Rattle.std.specs.Prelude.{◌≡◌, ℕ, ◌+◌, ◌<◌, ◌≤◌, ◌^◌, List, None, OnErr, Some, length};
+ghost use Rattle.std.specs.Prelude.{◌≡◌, ℕ, ◌+◌, ◌-◌, ◌<◌, ◌≤◌, ◌^◌, List, None, OnErr, Some, length, take};
 ghost use Rattle.trace.specs.Sinks.{IsFed, flow_after};
 ghost use Rattle.trace.specs.Stages.{filter, of_item};
 ghost use Rattle.trace.specs.Trace.{each, trace};
 ghost use Rattle.trace.specs.declared.item.End.TheVariants as end;
 ghost use Rattle.trace.specs.declared.item.Item.{Item};
 
-use crate::batch::{origin_of, stopped};
+use crate::batch::{Batch, origin_of, stopped};
 use crate::lane_items::LaneItems;
 use crate::number_test::NumberTest;
 use crate::pipeline::Pipeline;
 use crate::reached::Reached;
-use crate::register::{Inputs, eval_bool, eval_held};
+use crate::register::{Inputs, LANES, eval_bool, eval_held};
 use crate::sink::BatchSink;
 use crate::staging::fed_by;
 use crate::step::compared_with;
@@ -76,19 +77,18 @@ pub fn accept_each_flagged<S: LongSink>(
     Ok(Fed::More)
 }
 
-/// Tests lanes, and gives a sink the items at which the test is true. `flags` gets the flags.
+/// Tests lanes, and gives a sink the items at which the test is true. The first register of the room gets the flags.
 pub(crate) fn give_passing<S: BatchSink>(
     test: &BoolExpr,
     line: Pipeline<'_>,
     lanes: LaneItems<'_>,
     end: End,
-    flags: &mut [i64],
     room: &mut [i64],
     sink: &mut S,
 ) -> Result<Fed, NoMemory>
     requires lanes { length lanes.values.now ≤ 1024 }
-    requires flags { length lanes.values.now ≤ length flags.old }
-    requires room { FitsTest (truth_of test.now) (length room.old) }
+    requires flags { 1024 ≤ length room.old }
+    requires room { FitsTest (truth_of test.now) (length room.old - 1024) }
     requires wants { S.flow sink.old ≡ Flow.More }
     ensures fed { (xs : List Item) → S.has_taken sink.old xs → IsFed S.has_taken xs
         (each (of_item line.entry.first (filter (truth_of test.now)) line.entry.env.now)
@@ -101,7 +101,8 @@ pub(crate) fn give_passing<S: BatchSink>(
         xs: lanes.values,
         live: lanes.values.len(),
     };
-    let (flags, set, reached) = flags_of(test, inputs, flags, room);
+    let (flags, rest) = room.split_at_mut(LANES);
+    let (flags, set, reached) = flags_of(test, inputs, flags, rest);
     let end = stopped(
         end,
         line.first,
@@ -144,7 +145,31 @@ fn flags_of<'a>(
     (register, NumberTest::is_set(), reached)
 }
 
+/// Gives a sink the items of the lanes of a batch whose flag is set. The flags are in the first register of the room.
+pub(crate) fn give_set<S: BatchSink>(
+    batch: &Batch,
+    room: &[i64],
+    sink: &mut S,
+) -> Result<Fed, NoMemory>
+    requires flags { 1024 ≤ length room.now }
+    requires wants { S.flow sink.old ≡ Flow.More }
+    ensures fed { (xs : List Item) → S.has_taken sink.old xs → IsFed S.has_taken xs
+        (flagged_walk (take 1024 room.now) batch.now) result sink.new }
+    ensures flow { S.flow sink.new ≡ flow_after result }
+    ensures refused { OnErr result S.takes_memory }
+{
+    let lanes = FlaggedLanes {
+        start: batch.start,
+        origins: &batch.origins,
+        values: &batch.values,
+        flags: &room[..batch.live],
+        set: NumberTest::is_set(),
+    };
+    give_flagged(lanes, batch.end, sink)
+}
+
 /// Gives a sink the items of lanes whose flag is set, after which the walk ends so.
+#[inline(never)]
 fn give_flagged<S: BatchSink>(
     lanes: FlaggedLanes<'_>,
     end: End,

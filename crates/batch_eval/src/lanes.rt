@@ -2,21 +2,21 @@
 
 ghost use Rattle.batch_eval.specs.Lanes.{at, or_zero};
 ghost use Rattle.lambda_values.specs.Wrap.{wrap};
-ghost use Rattle.std.specs.Prelude.{◌≡◌, ◌<◌, ◌+◌, ◌-◌, ◌^◌, ◌+ℤ◌, ℕ, length, pos, slice_index};
+ghost use Rattle.std.specs.Prelude.{◌≡◌, ◌<◌, ◌^◌, ◌+ℤ◌, ℕ, ℤ, length, pos};
 
 use crate::kernel::Kernel;
 use std::marker::PhantomData;
 
-/// A number or a place at each lane.
-pub(crate) trait Lanes<T>: Copy {
+/// A number at each lane.
+pub(crate) trait Lanes: Copy {
     // How many lanes there are at least.
     ghost count: { Self → ℕ };
 
     // What a lane has where the register of the results has this.
-    ghost number: { Self → T → ℕ → T };
+    ghost number: { Self → ℤ → ℕ → ℤ };
 
     /// What a lane has where the register of the results has this.
-    fn get(self, lane: usize, old: T) -> T
+    fn get(self, lane: usize, old: i64) -> i64
         requires { lane < count self }
         ensures { result ≡ number self old lane };
 }
@@ -25,12 +25,12 @@ pub(crate) trait Lanes<T>: Copy {
 #[derive(Clone, Copy)]
 pub(crate) struct Own;
 
-impl<T: Copy> Lanes<T> for Own {
+impl Lanes for Own {
     ghost count = { λ _. 2 ^ 64 };
 
     ghost number = { λ _ old _. old };
 
-    fn get(self, _lane: usize, old: T) -> T {
+    fn get(self, _lane: usize, old: i64) -> i64 {
         old
     }
 }
@@ -39,7 +39,7 @@ impl<T: Copy> Lanes<T> for Own {
 #[derive(Clone, Copy)]
 pub(crate) struct Register<'a>(pub(crate) &'a [i64]);
 
-impl Lanes<i64> for Register<'_> {
+impl Lanes for Register<'_> {
     ghost count = { λ register. length register.0.now };
 
     ghost number = { λ register _ lane. at register.0.now lane };
@@ -53,7 +53,7 @@ impl Lanes<i64> for Register<'_> {
 #[derive(Clone, Copy)]
 pub(crate) struct Number(pub(crate) i64);
 
-impl Lanes<i64> for Number {
+impl Lanes for Number {
     ghost count = { λ _. 2 ^ 64 };
 
     ghost number = { λ number _ _. number.0 };
@@ -67,41 +67,13 @@ impl Lanes<i64> for Number {
 #[derive(Clone, Copy)]
 pub(crate) struct Counting(pub(crate) i64);
 
-impl Lanes<i64> for Counting {
+impl Lanes for Counting {
     ghost count = { λ _. 2 ^ 63 };
 
     ghost number = { λ counting _ lane. wrap (counting.0 +ℤ pos lane) };
 
     fn get(self, lane: usize, _old: i64) -> i64 {
         self.0.wrapping_add(lane as i64)
-    }
-}
-
-/// Listed places.
-#[derive(Clone, Copy)]
-pub(crate) struct ListedPlaces<'a>(pub(crate) &'a [u64]);
-
-impl Lanes<u64> for ListedPlaces<'_> {
-    ghost count = { λ listed. length listed.0.now };
-
-    ghost number = { λ listed _ lane. slice_index listed.0.now lane };
-
-    fn get(self, lane: usize, _old: u64) -> u64 {
-        self.0[lane]
-    }
-}
-
-/// Places that count up from one.
-#[derive(Clone, Copy)]
-pub(crate) struct CountedPlaces(pub(crate) u64);
-
-impl Lanes<u64> for CountedPlaces {
-    ghost count = { λ first. 2 ^ 64 - first.0 };
-
-    ghost number = { λ first _ lane. first.0 + lane };
-
-    fn get(self, lane: usize, _old: u64) -> u64 {
-        self.0 + lane as u64
     }
 }
 
@@ -113,7 +85,7 @@ pub(crate) struct Stepped<K, A> {
     pub(crate) kernel: PhantomData<K>,
 }
 
-impl<K: Kernel, A: Lanes<i64>> Lanes<i64> for Stepped<K, A> {
+impl<K: Kernel, A: Lanes> Lanes for Stepped<K, A> {
     ghost count = { λ stepped. A.count stepped.of };
 
     ghost number = { λ stepped old lane. or_zero (K.value (A.number stepped.of old lane) stepped.by) };

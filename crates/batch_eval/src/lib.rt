@@ -9,7 +9,7 @@
 //! Stands on `lambda_values` and `trace`. What it promises to its users: `feed_batches`, clauses `fed`, `flow` and
 //! `refused`, which repeat the clauses of `feed_all` word for word.
 //! Begin with `feeding.rt`, `batch.rt` and `register.rt`, and `specs/Lanes.antt` (`Reaches`).
-//! Not promised: how fast it is (`bench/lanes` measures it), and that memory for registers is there.
+//! Not promised: how fast it is (`bench/` measures it), and that memory for registers is there.
 #![tactic(auto)]
 
 mod batch;

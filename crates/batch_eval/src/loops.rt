@@ -11,7 +11,7 @@ use crate::reached::{Reached, all};
 use crate::reciprocal::Divisor;
 
 /// An operator between two operands at each lane.
-pub(crate) fn run<K: Kernel, A: Lanes<i64>, B: Lanes<i64>>(
+pub(crate) fn run<K: Kernel, A: Lanes, B: Lanes>(
     a: A,
     b: B,
     live: usize,
@@ -39,7 +39,7 @@ pub(crate) fn run<K: Kernel, A: Lanes<i64>, B: Lanes<i64>>(
 }
 
 /// A division by a divisor with a reciprocal at each lane.
-pub(crate) fn divide<D: Division, R: Divisor, A: Lanes<i64>>(
+pub(crate) fn divide<D: Division, R: Divisor, A: Lanes>(
     a: A,
     by: R,
     live: usize,

@@ -101,7 +101,7 @@ pub(crate) fn fill(number: i64, live: usize, out: &mut [i64]) -> Reached
 }
 
 /// An operator between lanes and another operand.
-pub(crate) fn by_kernel<K: Kernel, A: Lanes<i64>>(
+pub(crate) fn by_kernel<K: Kernel, A: Lanes>(
     a: A,
     beside: Beside<'_>,
     live: usize,
@@ -123,7 +123,7 @@ pub(crate) fn by_kernel<K: Kernel, A: Lanes<i64>>(
 }
 
 /// An operator between two operands, the first one after a step.
-pub(crate) fn by_step<K: Kernel, A: Lanes<i64>, B: Lanes<i64>>(
+pub(crate) fn by_step<K: Kernel, A: Lanes, B: Lanes>(
     a: A,
     step: Step,
     b: B,
@@ -156,7 +156,7 @@ pub(crate) fn blend(flags: &[i64], one: Branch<'_>, other: Branch<'_>, live: usi
     }
 }
 
-fn blend_with<A: Lanes<i64>>(flags: &[i64], a: A, other: Branch<'_>, live: usize, out: &mut [i64])
+fn blend_with<A: Lanes>(flags: &[i64], a: A, other: Branch<'_>, live: usize, out: &mut [i64])
     requires flags { live ≤ length flags.now }
     requires a { live ≤ A.count a }
     requires other { HasBranch other live }

@@ -11,11 +11,11 @@ use lambda_values::BoolExpr;
 use std::alloc::Global;
 use trace::{NoMemory, Stage};
 
-/// How many numbers expressions may take while they are evaluated: at first those of 5 registers, and at most those of
-/// 32. `Space::new` says what the two more are for.
-const FEW_REGISTERS: usize = 5 * LANES + 2;
+/// How many numbers flags and expressions may take while they are evaluated: at first those of 6 registers, and at most
+/// those of 33. `Space::new` says what the two more are for.
+const FEW_REGISTERS: usize = 6 * LANES + 2;
 
-const MOST_REGISTERS: usize = 32 * LANES + 2;
+const MOST_REGISTERS: usize = 33 * LANES + 2;
 
 /// How many `flatMap`s of a pipeline go by batches. What comes out of a further one goes item by item.
 const MOST_NESTED: usize = 3;
@@ -28,8 +28,8 @@ const FEW_ITEMS: u64 = 64;
 
 /// What walks by batches of up to 1,024 items keep their values in.
 ///
-/// A worker has one and uses it for each walk. The first walk that needs registers allocates 64 KB, one with larger
-/// expressions up to 280 KB. Nothing is kept from one walk to the next.
+/// A worker has one and uses it for each walk. The first walk that needs registers allocates 72 KB, one with larger
+/// expressions up to 288 KB. Nothing is kept from one walk to the next.
 #[derive(Drop)]
 pub struct Registers {
     alloc: Global,

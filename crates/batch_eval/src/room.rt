@@ -1,6 +1,6 @@
 //! Whether the room for registers is enough for an expression.
 
-ghost use Rattle.batch_eval.specs.Rooms.{Fits, FitsBoth, FitsStages, FitsTest};
+ghost use Rattle.batch_eval.specs.Rooms.{Fits, FitsBoth, FitsEach, FitsStages, FitsTest};
 ghost use Rattle.lambda_values.specs.Term.{long_of, truth_of};
 ghost use Rattle.std.specs.Prelude.{IsTrue};
 ghost use Rattle.trace.specs.Stages.{stages_of};
@@ -58,9 +58,16 @@ pub(crate) fn test_fits(test: &BoolExpr, room: usize) -> bool
     }
 }
 
-/// Whether it is enough for each of these stages.
+/// Whether it is enough for flags and for each of these stages.
 pub(crate) fn stages_fit(stages: &[Stage], room: usize) -> bool
     ensures { IsTrue result → FitsStages (stages_of stages.now) room }
+{
+    room >= LANES && each_fits(stages, room - LANES)
+}
+
+/// Whether it is enough for each of these stages.
+fn each_fits(stages: &[Stage], room: usize) -> bool
+    ensures { IsTrue result → FitsEach (stages_of stages.now) room }
 {
     let Some((stage, later)) = stages.split_first() else {
         return true;
@@ -70,7 +77,7 @@ pub(crate) fn stages_fit(stages: &[Stage], room: usize) -> bool
         Stage::Filter(test) => test_fits(test, room),
         Stage::FlatMap(_) => true,
     };
-    here && stages_fit(later, room)
+    here && each_fits(later, room)
 }
 
 /// Whether it is enough for a test and a register of its flags, if there is a test.

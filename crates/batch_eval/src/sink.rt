@@ -28,8 +28,8 @@ pub trait BatchSink: LongSink {
         accept_each(&lanes, self)
     }
 
-    /// Whether a `filter` that comes last is to give its lanes with their flags, by `accept_flagged`, and not the items
-    /// that pass, by `accept_lanes`. Both give the sink equal items.
+    /// Whether a `filter` is to give lanes with their flags, by `accept_flagged`, and not the items that pass, by
+    /// `accept_lanes`. Both give the sink equal items.
     fn takes_flags(&self) -> bool {
         false
     }

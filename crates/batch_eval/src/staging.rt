@@ -15,7 +15,7 @@ ghost use Rattle.trace.specs.declared.item.Item.{Item};
 
 use crate::batch::Batch;
 use crate::columns::{Columns, column_room, eval_columns};
-use crate::flagged::give_passing;
+use crate::flagged::{give_passing, give_set};
 use crate::lane_items::LaneItems;
 use crate::pipeline::Pipeline;
 use crate::register::LANES;
@@ -49,14 +49,16 @@ pub(crate) fn feed_batch<S: BatchSink>(
     ensures flow { S.flow sink.new ≡ flow_after result }
     ensures refused { OnErr result S.takes_memory }
 {
-    let line = batch.go_on(line, sink.takes_flags(), room);
+    let Some(line) = batch.go_on(line, sink.takes_flags(), room) else {
+        return give_set(batch, room, sink);
+    };
     let Some((stage, later)) = line.split_first() else {
         return give(batch, room, sink);
     };
     match stage {
         Stage::Filter(test) if later.stages.is_empty() && sink.takes_flags() => {
             let lanes = LaneItems::front(batch.live, batch.start, &batch.origins, &batch.values);
-            give_passing(test, line, lanes, batch.end, &mut batch.spare, room, sink)
+            give_passing(test, line, lanes, batch.end, room, sink)
         }
         Stage::FlatMap(inner) => match nested.split_first_mut() {
             Some((pending, rest)) => {

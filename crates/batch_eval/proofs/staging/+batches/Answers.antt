@@ -7,20 +7,36 @@ use Rattle.trace.specs.declared.item.End.{End}
 use Rattle.trace.specs.declared.item.Fault.{Fault}
 use Rattle.trace.specs.Trace.{Trace, trace, each}
 use Rattle.trace.specs.Sinks.{IsFed}
-use Rattle.trace.specs.Stages.{at_place, flat_map, flattened, of_item}
+use Rattle.trace.specs.Stages.{at_place, filter, flat_map, flattened, of_item}
 use Rattle.lambda_values.specs.Streams.{inner_of, inner_value, run_or_listed}
+use Rattle.lambda_values.specs.Term.{truth_of}
+use Rattle.batch_eval.specs.Batches.{item_at, laid_items, lanes}
 use Rattle.batch_eval.specs.InnerColumns.{given}
 use Rattle.batch_eval.specs.Lanes.{at}
 use Rattle.batch_eval.specs.Pipelines.{piped}
 use Rattle.batch_eval.specs.Pours.{Holds}
+use Rattle.batch_eval.proofs.SetItemLemmas.{none_left}
 use Rattle.batch_eval.proofs.WaitingItemLemmas.{holds_none, holds_ended, holds_added, holds_further, flushed, poured_rest, inner_stopped, each_next, each_fault, each_whole}
 use Rattle.batch_eval.proofs.staging.+batches.Goals as goal
 
 pub feed_batch-returns-in-Some-split_first_mut-clause-fed : goal.feed_batch-returns-in-Some-split_first_mut-clause-fed
 feed_batch-returns-in-Some-split_first_mut-clause-fed g t c = λ xs took.
-    let split = c.in-Some.ensures in
+    let split = c.in-Some-split_first.ensures in
     let here = rw (split.first, split.env, add-one) at (c.feed_inner.ensures.fed xs took) in
-    rw (sym c.go_on-line.ensures.walk) (rw (split.stages, c.in-FlatMap.is) here)
+    rw (sym c.in-Some.ensures.walk) (rw (split.stages, c.in-FlatMap.is) here)
+
+pub feed_batch-returns-in-Filter-clause-fed : goal.feed_batch-returns-in-Filter-clause-fed
+feed_batch-returns-in-Filter-clause-fed g t c = λ xs took.
+    let h = g.S.LongSink.has_taken in
+    let split = c.in-Some-split_first.ensures in
+    let b = c.batch.inside in
+    let l = c.front-lanes.result in
+    let f : Item → Trace = of_item c.in-Some.line.first (filter (truth_of c.in-Filter.test)) c.in-Some.line.env.now in
+    let items : laid_items l.start l.places.now l.values.now ≡ lanes b.live (item_at b.start b.origins.items b.values.items) = c.front-lanes.ensures.items ∙ rw (c.deref.ensures.value, c.deref-in-Filter.ensures.value) refl in
+    let fed = subst (λ (ys : List Item). IsFed h xs (each f ys b.end) c.give_passing.result c.give_passing.new.sink) items (c.give_passing.ensures.fed xs took) in
+    let here = subst (λ (u : Trace). IsFed h xs (each f u.items u.ending) c.give_passing.result c.give_passing.new.sink) c.batch.view_is fed in
+    let last = none_left c.in-Some-split_first.later.stages.now (sym c.is_empty.ensures ∙ c.if-is_empty.true) in
+    rw (sym c.in-Some.ensures.walk) (rw (split.stages, c.in-Filter.is, last) here)
 
 pub finish-returns-clause-fed : goal.finish-returns-clause-fed
 finish-returns-clause-fed g t c = λ xs whole held.

@@ -1,6 +1,6 @@
 use Rattle.std.proofs.Common.{FitsSigned, pos, arith, rules, w64}
 use Rattle.std.proofs.lemmas.Int.{wrapping_add_is}
-use Rattle.batch_eval.proofs.lanes.CountingLanesI64.get.Goals as goal
+use Rattle.batch_eval.proofs.lanes.CountingLanes.get.Goals as goal
 
 pub returns : goal.returns
 returns c =

@@ -1,29 +1,28 @@
-use Rattle.std.proofs.Common.{Bool, ◌≡◌, ℕ, ◌+◌, ◌<◌, ◌≤◌, ℤ, pos, length, slice_index, get_or, ap, ◌∙◌, arith, rules, w64, to_z, of_z, subst}
+use Rattle.std.proofs.Common.{Bool, ◌≡◌, ℕ, ◌+◌, ◌<◌, ◌≤◌, ℤ, pos, length, slice_index, get_or, ◌∙◌, arith, rules, w64, to_z, of_z, subst}
 use Rattle.batch_eval.specs.Lanes.{at, is_set}
-use Rattle.batch_eval.specs.Batches.{passing}
+use Rattle.batch_eval.specs.Batches.{origin_at, passing}
 use Rattle.batch_eval.proofs.KeptLaneLemmas.{kept_set, kept_unset, front_more, rest_more}
-use Rattle.batch_eval.proofs.keep.keep.Goals.{then-is_set, else-is_set}
-use Rattle.batch_eval.proofs.keep.keep.Goals as goal
+use Rattle.batch_eval.proofs.Items.{same_place}
+use Rattle.batch_eval.proofs.keep.keep_lanes.Goals.{then-is_set, else-is_set}
+use Rattle.batch_eval.proofs.keep.keep_lanes.Goals as goal
 
 pub loop-i-preserved : goal.loop-i-preserved
-loop-i-preserved g c =
+loop-i-preserved c =
     let flags = c.args.flags.now in
     let p : ℕ → Bool = λ k. is_set (at flags k) in
     let i = c.loop-i.i in
     let kept = c.loop-i.kept in
     let so_far = c.loop-i.invariant in
     let old = get_or c.loop-i.values i (pos 0) in
-    let xs : ℕ → ℤ = λ k. g.A.Lanes.number c.args.xs (at c.args.values.now k) k in
-    let spots : ℕ → ℕ = λ k. g.P.Lanes.number c.args.places (slice_index c.args.origins.now k) k in
-    let value = c.get.result in
-    let spot = c.get-in-loop-i.result in
+    let xs : ℕ → ℤ = λ k. at c.args.values.now k in
+    let spots : ℕ → ℕ = origin_at c.args.start c.args.origins.now in
+    let spot = c.origin_of-place.result in
     let flag : c.is_set.result ≡ is_set (at flags i) = search rules in
-    let same : to_z w64 (of_z w64 value) ≡ value = search rules in
     let read : to_z w64 (of_z w64 old) ≡ old = search rules in
-    let here : to_z w64 (of_z w64 value) ≡ xs i = same ∙ c.get.ensures ∙ ap (λ (z : ℤ). g.A.Lanes.number c.args.xs z i) (read ∙ so_far.rest_values i (omega arith)) in
-    let there : spot ≡ spots i = c.get-in-loop-i.ensures ∙ ap (λ (n : ℕ). g.P.Lanes.number c.args.places n i) (so_far.rest_origins i (omega arith)) in
-    let values = front_more p xs c.loop-i.values kept i (to_z w64 (of_z w64 value)) (pos 0) c.is_set.result flag here (omega arith) so_far.count so_far.values in
-    let values_rest = rest_more p (at c.args.values.now) c.loop-i.values kept i (to_z w64 (of_z w64 value)) (pos 0) so_far.within so_far.rest_values in
+    let here : to_z w64 (of_z w64 old) ≡ xs i = read ∙ so_far.rest_values i (omega arith) in
+    let there : spot ≡ spots i = c.origin_of-place.ensures ∙ same_place c.args.start c.loop-i.origins c.args.origins.now i (so_far.rest_origins i (omega arith)) in
+    let values = front_more p xs c.loop-i.values kept i (to_z w64 (of_z w64 old)) (pos 0) c.is_set.result flag here (omega arith) so_far.count so_far.values in
+    let values_rest = rest_more p (at c.args.values.now) c.loop-i.values kept i (to_z w64 (of_z w64 old)) (pos 0) so_far.within so_far.rest_values in
     let origins = front_more p spots c.loop-i.origins kept i spot 0 c.is_set.result flag there (omega arith) so_far.count so_far.origins in
     let origins_rest = rest_more p (slice_index c.args.origins.now) c.loop-i.origins kept i spot 0 so_far.within so_far.rest_origins in
     let count : c.if-is_set.kept ≡ length (passing flags (i + 1)) = elim c.if-is_set.branch [

@@ -1,0 +1,39 @@
+use Rattle.std.proofs.Common.{◌≡◌, ◌≤◌, ℤ, List, add-one, ap, sym, ◌∙◌, subst, rules, arith}
+use Rattle.std.proofs.lemmas.List.{places, with_items_is}
+use Rattle.lambda_values.specs.Term.{long_of, truth_of}
+use Rattle.lambda_values.specs.Value.{long_value, truth_value}
+use Rattle.batch_eval.specs.Lanes.{Reaches, at, flagged}
+use Rattle.batch_eval.proofs.SetItemLemmas.{filter_all, map_all}
+use Rattle.batch_eval.proofs.batch.Batch.+sift.Goals as goal
+
+pub returns-else-eval_long-self-clause-walk : goal.returns-else-eval_long-self-clause-walk
+returns-else-eval_long-self-clause-walk t c =
+    let b = c.self.inside in
+    let split = c.in-Some-Map-default.ensures in
+    let image = long_of c.in-Some-Map-default.image in
+    let env = c.args.line.env.now in
+    let out = c.eval_long.new.out in
+    let r = c.eval_long.result in
+    let reaches = subst (λ (xs : List ℤ). Reaches (λ k. long_value image (at xs k) env) (at out) b.live r) c.deref.ensures.value c.eval_long.ensures in
+    let all : b.live ≤ r.live = omega (arith, c.if-eval_long-self.false) in
+    let step = map_all b.live b.start b.origins.items b.values.items c.args.flags.now b.end c.args.self.now env c.args.line.first r image out reaches all c.self.view_is in
+    let images = ap (λ v. v.items) c.swap.ensures.x_after ∙ with_items_is b.spare out (search (rules, places)) in
+    let on = rw (images, step, split.first, split.env, add-one) at c.sift.ensures.walk in
+    rw (split.stages, c.in-Some-Map-default.field-0-0-is) on
+
+pub returns-else-eval_bool-self-clause-walk : goal.returns-else-eval_bool-self-clause-walk
+returns-else-eval_bool-self-clause-walk t c =
+    let b = c.self.inside in
+    let split = c.in-Some-Filter-default.ensures in
+    let test = truth_of c.in-Some-Filter-default.test in
+    let env = c.args.line.env.now in
+    let out = c.eval_bool.new.out in
+    let r = c.eval_bool.result in
+    let passes = c.deref-in-Some-Filter-default.result.now in
+    let passes_are : passes ≡ out = c.deref-in-Some-Filter-default.ensures.value ∙ with_items_is b.spare out (search (rules, places)) in
+    let here = subst (λ (xs : List ℤ). Reaches (λ k. flagged (truth_value test (at xs k) env)) (at out) b.live r) c.deref.ensures.value c.eval_bool.ensures in
+    let reaches = subst (λ (zs : List ℤ). Reaches (λ k. flagged (truth_value test (at b.values.items k) env)) (at zs) b.live r) (sym passes_are) here in
+    let all : b.live ≤ r.live = omega (arith, c.if-eval_bool-self.false) in
+    let step = filter_all b.live b.start b.origins.items b.values.items c.args.flags.now b.end c.args.self.now env c.args.line.first r test passes c.select.new.out reaches all c.select.ensures c.self.view_is in
+    let on = rw (step, split.first, split.env, add-one) at c.sift-in-Some-Filter-default.ensures.walk in
+    rw (split.stages, c.in-Some-Filter-default.field-0-0-is) on
