@@ -23,16 +23,19 @@ use lambda_values::BoolExpr;
 use std::mem;
 use trace::Stage;
 
-/// Whether at least half of the first flags are set. A flag that is set is -1: their sum needs no branch.
+/// How many flags are looked at to find out whether most are set.
+const SAMPLE: usize = 128;
+
+/// Whether at least half of the first flags are set, up to 128. A flag that is set is -1: their sum needs no branch.
 fn most_are_set(flags: &[i64], live: usize) -> bool
-    requires few { live ≤ 1024 }
-    requires flags { live ≤ length flags.now }
+    requires { live ≤ length flags.now }
 {
+    let count = live.min(SAMPLE);
     let mut set: i64 = 0;
-    for lane in 0..live {
+    for lane in 0..count {
         set = set.wrapping_sub(flags[lane]);
     }
-    set >= live as i64 / 2
+    set >= count as i64 / 2
 }
 
 impl Batch {

@@ -169,7 +169,6 @@ pub(crate) fn give_set<S: BatchSink>(
 }
 
 /// Gives a sink the items of lanes whose flag is set, after which the walk ends so.
-#[inline(never)]
 fn give_flagged<S: BatchSink>(
     lanes: FlaggedLanes<'_>,
     end: End,
