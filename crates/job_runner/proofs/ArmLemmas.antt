@@ -14,9 +14,8 @@ use Rattle.pending_count.proofs.CallerLemmas.{drawn_is, claim_larger, arm_held, 
 use Rattle.completer_tree.specs.Roots.{Rooted}
 use Rattle.job_runner.specs.declared.start.Start.{Start}
 use Rattle.job_runner.specs.declared.start.Waiting.{Waiting}
-use Rattle.job_runner.specs.Starts.{HasStarts, all_waiting, start_nodes, node_at, kept_at, nodes_below}
 use Rattle.job_runner.specs.Waits.{nodes_in}
-use Rattle.job_runner.specs.Tasks.{KnowsStarts, CanArrive}
+use Rattle.job_runner.specs.Tasks.{HasStarts, all_waiting, start_nodes, node_at, kept_at, nodes_below, KnowsStarts, CanArrive}
 use Rattle.atomic_table.specs.Seated.{TableId}
 use Rattle.pending_count.specs.declared.place.Fits.{Ghosts}
 use Rattle.pending_count.specs.declared.seat.Seat.{Seat}

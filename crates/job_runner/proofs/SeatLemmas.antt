@@ -18,8 +18,7 @@ use Rattle.pending_count.proofs.RecordLemmas.{fresh-count, fresh_here}
 use Rattle.pending_count.proofs.CallerLemmas.{last_held, last_sides, last_noted, last_side_notes}
 use Rattle.completer_tree.specs.Roots as tree
 use Rattle.completer_tree.specs.Trees.{CanKeep, CanHand, IsUnchanged}
-use Rattle.job_runner.specs.Tasks.{KnowsStarts, KnowsTop, HasKept, CanArrive}
-use Rattle.job_runner.specs.Starts.{nodes_below}
+use Rattle.job_runner.specs.Tasks.{KnowsStarts, KnowsTop, HasKept, CanArrive, nodes_below}
 use Rattle.job_runner.specs.Waits.{nodes_in}
 use Rattle.job_runner.specs.declared.start.Waiting.{Waiting}
 use Rattle.completer_tree.specs.Roots.{Rooted}

@@ -1,7 +1,7 @@
 -- Which word belongs to a segment.
 use Rattle.std.proofs.Common.{◌≡◌, ℕ, zero, suc, ◌+◌, ◌-◌, ◌<◌, ◌≤◌, Bool, true, false, cond, nat_lt, le-ltb, lt-ltb, sym, refl, ap, ◌∙◌, subst, arith}
-use Rattle.trace.specs.Trace.{Trace}
-use Rattle.early_stop.specs.Decisive.{IsDecisive, Decides}
+use Rattle.early_stop.specs.Decisive.{IsDecisive}
+use Rattle.job_runner.specs.Runs.{DecidesIn, RunSpec}
 use Rattle.job_runner.specs.Stops.{pair_from, pair_at, words_from, first_word}
 
 pick_first : (b : Bool) (p q : ℕ × ℕ) → b ≡ true → cond b p q ≡ p
@@ -51,14 +51,14 @@ words_more last job (suc n) =
 pub next_word : (last : ℕ → ℕ) (job : ℕ) → first_word last (suc job) ≡ first_word last job + suc (last job)
 next_word last job = words_more last 0 job ∙ (let z : 0 + job ≡ job = omega arith in ap (λ j. words_from last 0 job + suc (last j)) z)
 
-module _ {O : Type 0} (source : ℕ → ℕ → Trace) (outcome : ℕ → ℕ → Trace → O) where
+module _ {O P S A G : Type 0} (run : RunSpec O P S A G) where
   -- a place of the word's segment is one of the segment that has the word
-  pub decisive_there : (p : ℕ × ℕ) (job segment c : ℕ) → p ≡ (job, segment) → IsDecisive (outcome p.0 p.1) (source p.0 p.1) c → IsDecisive (outcome job segment) (source job segment) c
-  decisive_there p job segment c e h = subst (λ (q : ℕ × ℕ). IsDecisive (outcome q.0 q.1) (source q.0 q.1) c) e h
+  pub decisive_there : (p : ℕ × ℕ) (job segment c : ℕ) → p ≡ (job, segment) → IsDecisive (run.gives p.0 p.1) (run.goes_over p.0 p.1) c → IsDecisive (run.gives job segment) (run.goes_over job segment) c
+  decisive_there p job segment c e h = subst (λ (q : ℕ × ℕ). IsDecisive (run.gives q.0 q.1) (run.goes_over q.0 q.1) c) e h
 
-  pub decisive_here : (p : ℕ × ℕ) (job segment c : ℕ) → p ≡ (job, segment) → Decides (outcome job segment) (source job segment) c → IsDecisive (outcome p.0 p.1) (source p.0 p.1) c
-  decisive_here p job segment c e h = subst (λ (q : ℕ × ℕ). IsDecisive (outcome q.0 q.1) (source q.0 q.1) c) (sym e) (λ _. h)
+  pub decisive_here : (p : ℕ × ℕ) (job segment c : ℕ) → p ≡ (job, segment) → DecidesIn run job segment c → IsDecisive (run.gives p.0 p.1) (run.goes_over p.0 p.1) c
+  decisive_here p job segment c e h = subst (λ (q : ℕ × ℕ). IsDecisive (run.gives q.0 q.1) (run.goes_over q.0 q.1) c) (sym e) (λ _. h)
 
   -- a place by other names for job and segment
-  pub decides_for : (j j' k k' c : ℕ) → j ≡ j' → k ≡ k' → Decides (outcome j k) (source j k) c → Decides (outcome j' k') (source j' k') c
-  decides_for j j' k k' c ej ek h = subst (λ (i : ℕ). Decides (outcome i k') (source i k') c) ej (subst (λ (i : ℕ). Decides (outcome j i) (source j i) c) ek h)
+  pub decides_for : (j j' k k' c : ℕ) → j ≡ j' → k ≡ k' → DecidesIn run j k c → DecidesIn run j' k' c
+  decides_for j j' k k' c ej ek h = subst (λ (i : ℕ). DecidesIn run i k' c) ej (subst (λ (i : ℕ). DecidesIn run j i c) ek h)

@@ -1,5 +1,6 @@
--- Condition: which positions belong to a side of a cut, and which pieces a run has.
+-- Condition: which pieces a run has, which positions belong to a side of a cut, and what is handed in for them.
 use Rattle.std.specs.Prelude.{◌≡◌, ℕ, ◌-◌, ◌<◌, ◌≤◌, Bool, Result, Ok, Err, ⊤}
+use Rattle.std.proofs.Common.{subst}
 use Rattle.trace.specs.declared.item.Fault.{Fault}
 use Rattle.completer_tree.specs.declared.part.Failure.{Failure}
 use Rattle.completer_tree.specs.declared.part.Failure.TheVariants as failure
@@ -10,6 +11,8 @@ use Rattle.pending_count.specs.Pairs.{side_of}
 use Rattle.job_runner.specs.declared.cut.CutPiece.{CutPiece}
 use Rattle.job_runner.specs.declared.cut.Merged.{Merged}
 use Rattle.job_runner.specs.declared.cut.Merged.TheVariants.{Part, Caught}
+use Rattle.job_runner.specs.declared.piece.Piece.{Piece}
+use Rattle.job_runner.specs.Runs.{RunSpec}
 
 -- where the positions of a side begin and end
 abbrev pub begins : CutPiece → Side → ℕ
@@ -38,7 +41,7 @@ pub record IsPiece (jobs : ℕ) (last : ℕ → ℕ) (size : ℕ → ℕ → ℕ
   pub within : to ≤ size job segment
 
 -- of what comes of pieces: this holds if it is a part, and this if a fault was caught
-abbrev pub IfMerged : {A : Type 0} → (A → Type 0) → Type 0 → Merged A → Type 0
+abbrev pub IfMerged : {P : Type 0} → (P → Type 0) → Type 0 → Merged P → Type 0
 IfMerged stands caught (Part p) = stands p
 IfMerged stands caught Caught = caught
 
@@ -48,21 +51,46 @@ IfHanded value faults (Ok x) = value x
 IfHanded value faults (Err (failure.Fault f)) = faults f
 IfHanded value faults (Err failure.NoMemory) = ⊤
 
--- what is handed in at a side of a cut: the part of these positions, a fault among them that the job catches, or
--- nothing
-abbrev pub HandedIn : {A X : Type 0} → (ℕ → ℕ → ℕ → ℕ → A → Type 0) → (ℕ → ℕ → ℕ → ℕ → Fault → Type 0) → (X → Merged A) → ℕ → ℕ → ℕ → ℕ → Result X Failure → Type 0
-HandedIn stands faults found job segment from to v = IfHanded (λ x. IfMerged (stands job segment from to) ⊥ (found x)) (faults job segment from to) v
+module _ {O P S A G : Type 0} (run : RunSpec O P S A G) where
+  -- a piece of the run, and its part
+  abbrev pub IsPieceOf : Piece → Type 0
+  IsPieceOf p = IsPiece run.jobs run.last run.size p.job p.segment p.from p.to
 
--- what comes of all pieces between these positions: their part, a caught fault, or nothing; no fault goes on
-abbrev pub ComesOf : {A X : Type 0} → (ℕ → ℕ → ℕ → ℕ → A → Type 0) → (ℕ → ℕ → ℕ → ℕ → Fault → Type 0) → (X → Merged A) → ℕ → ℕ → ℕ → ℕ → Result X Failure → Type 0
-ComesOf stands faults found job segment from to v = IfHanded (λ x. IfMerged (stands job segment from to) ((f : Fault) × faults job segment from to f) (found x)) (λ f. ⊥) v
+  abbrev pub Stands : Piece → P → Type 0
+  Stands p part = run.stands_for p.job p.segment p.from p.to part
 
--- what is handed in at a side of a cut, or comes of both sides
-abbrev pub Fits : {A X : Type 0} → (ℕ → ℕ → ℕ → ℕ → A → Type 0) → (ℕ → ℕ → ℕ → ℕ → Fault → Type 0) → (X → Merged A) → CutPiece → Side → Result X Failure → Type 0
-Fits stands faults found cut Left v = HandedIn stands faults found cut.job cut.segment cut.from cut.middle v
-Fits stands faults found cut Right v = HandedIn stands faults found cut.job cut.segment cut.middle cut.to v
-Fits stands faults found cut Whole v = ComesOf stands faults found cut.job cut.segment cut.from cut.to v
+  -- the part of a piece of this segment ends in this fault, and the job gives an answer in its place
+  pub record HasFault (job segment : ℕ) (fault : Fault) : Type 0 where
+    pub from : ℕ
+    pub to : ℕ
+    pub piece : IsPiece run.jobs run.last run.size job segment from to
+    pub part : P
+    pub stands : run.stands_for job segment from to part
+    pub caught : run.is_caught job segment part fault
 
--- what comes of a whole segment: its part, a caught fault, or nothing
-abbrev pub StandsWhole : {A X : Type 0} → (ℕ → ℕ → ℕ → ℕ → A → Type 0) → (ℕ → ℕ → ℕ → ℕ → Fault → Type 0) → (ℕ → ℕ → ℕ) → ℕ → ℕ → (X → Merged A) → Result X Failure → Type 0
-StandsWhole stands faults size job segment found v = ComesOf stands faults found job segment 0 (size job segment) v
+module _ {O P S A G X : Type 0} (run : RunSpec O P S A G) (found : X → Merged P) where
+  -- what is handed in at a side of a cut: the part of these positions, a fault that the job catches, or nothing
+  abbrev pub HandedIn : ℕ → ℕ → ℕ → ℕ → Result X Failure → Type 0
+  HandedIn job segment from to v = IfHanded (λ x. IfMerged (run.stands_for job segment from to) ⊥ (found x)) (HasFault run job segment) v
+
+  -- what comes of all pieces between these positions: their part, a caught fault, or nothing; no fault goes on
+  abbrev pub ComesOf : ℕ → ℕ → ℕ → ℕ → Result X Failure → Type 0
+  ComesOf job segment from to v = IfHanded (λ x. IfMerged (run.stands_for job segment from to) ((f : Fault) × HasFault run job segment f) (found x)) (λ f. ⊥) v
+
+  -- what is handed in at a side of a cut, or comes of both sides
+  abbrev pub Fits : CutPiece → Side → Result X Failure → Type 0
+  Fits cut Left v = HandedIn cut.job cut.segment cut.from cut.middle v
+  Fits cut Right v = HandedIn cut.job cut.segment cut.middle cut.to v
+  Fits cut Whole v = ComesOf cut.job cut.segment cut.from cut.to v
+
+  -- what comes of a whole segment: its part, a caught fault, or nothing
+  abbrev pub StandsWhole : ℕ → ℕ → Result X Failure → Type 0
+  StandsWhole job segment v = ComesOf job segment 0 (run.size job segment) v
+
+  -- laws of these that the continuations of a tree need: what comes of a whole segment by other names for job and
+  -- segment, and what comes of all positions
+  pub stands_moved : (v : Result X Failure) {j j' k k' : ℕ} → j ≡ j' → k ≡ k' → StandsWhole j k v → StandsWhole j' k' v
+  stands_moved v {j} {j'} {k} {k'} ej ek h = subst (λ z. StandsWhole z k' v) ej (subst (λ z. StandsWhole j z v) ek h)
+
+  pub stands_whole : (v : Result X Failure) (j k : ℕ) {a b : ℕ} → a ≡ 0 → b ≡ run.size j k → ComesOf j k a b v → StandsWhole j k v
+  stands_whole v j k {a} {b} ea eb h = subst (λ z. ComesOf j k 0 z v) eb (subst (λ z. ComesOf j k z b v) ea h)

@@ -1,8 +1,7 @@
--- Condition: the files of this crate's definitions; the first line of each says what it is. Begin with Cuts.
+-- Condition: the files of this crate's definitions; the first line of each says what it is. Begin with Runs.
+pub mod Runs
 pub mod Cuts
-pub mod CutLaws
 pub mod Tasks
 pub mod Waits
-pub mod Starts
 pub mod Answers
 pub mod Stops

@@ -1,5 +1,5 @@
 //! One job on one thread.
-ghost use Rattle.std.specs.Prelude.{◌≡◌, ◌<◌, ◌≤◌, ℕ, IfOk};
+ghost use Rattle.std.specs.Prelude.{◌≡◌, ◌<◌, ◌≤◌, ℕ, IfNone, IfOk, IfSome};
 
 use crate::NoMemory;
 use crate::earlier::Earlier;
@@ -15,48 +15,57 @@ fn walk_whole<S: JobSegments>(
     jobs: &S,
     job: usize,
     segment: usize,
-    input: SegmentInput<'_, S::Source, S::Given, Earlier<'_, S>>,
+    input: SegmentInput<'_, '_, S::Source, S::Given, Earlier<'_, S>>,
     scratch: &mut S::Scratch,
 ) -> Result<S::Part, NoMemory>
-    requires job { job < S.job_count }
-    requires segment { segment ≤ S.last_of job }
-    requires source { S.is_source job segment input.source.now }
-    requires given { S.is_given job input.given.now }
-    ensures { IfOk result (λ part. S.stands_for job segment 0 (S.size_of job segment) part) }
+    requires job { job < S.run.jobs }
+    requires segment { segment ≤ S.run.last job }
+    requires first { IfNone input.source (segment ≡ 0) }
+    requires source { IfSome input.source (λ source. S.run.is_source job segment source.now) }
+    requires size { input.size ≡ S.run.size job segment }
+    requires given { S.run.is_given job input.given.now }
+    ensures { IfOk result (λ part. S.run.stands_for job segment 0 (S.run.size job segment) part) }
 {
-    let size = jobs.size(job, segment, input.source, input.given);
-    let all = Piece::all(job, segment, size);
+    let all = Piece::all(job, segment, input.size);
     jobs.leaf(alloc, all, input, scratch, &mut Never)
 }
 
-/// Walks all segments of a job, each as one piece. It enters the gate once, for all of the job's source.
-fn walk_alone<S: JobSegments, G: Gate>(
+/// Walks all segments of a job, each as one piece. It enters the gate once, for all of the job's source. `size` is how
+/// many positions that has.
+fn walk_alone<'x, S: JobSegments, G: Gate>(
     alloc: Global,
     gate: &G,
     jobs: &S,
     job: usize,
-    given: &S::Given,
-    earlier: &Earlier<'_, S>,
+    given: &'x S::Given,
+    size: u64,
+    earlier: &'x Earlier<'_, S>,
 ) -> Result<S::Answer, NoMemory>
-    requires job { job < S.job_count }
-    requires given { S.is_given job given.now }
-    ensures { IfOk result (λ answer. S.is_answer job answer) }
+    requires job { job < S.run.jobs }
+    requires given { S.run.is_given job given.now }
+    requires size { size ≡ S.run.size job 0 }
+    ensures { IfOk result (λ answer. S.run.is_answer job answer) }
 {
-    let mut source = jobs.first_source(job);
-    gate.at_leaf(job, 0, jobs.size(job, 0, &source, given));
+    gate.at_leaf(job, 0, size);
     let last = jobs.last_segment(job);
     let mut scratch = jobs.scratch(alloc);
+    let mut size = size;
+    let mut source = None;
     for segment in 0..last {
         let input = SegmentInput {
-            source: &source,
+            source: source.as_ref(),
+            size,
             given,
             earlier,
         };
         let part = walk_whole(alloc, jobs, job, segment, input, &mut scratch)?;
-        source = jobs.next_source(alloc, job, segment, part, given)?;
+        let next = jobs.next_source(alloc, job, segment, part, given)?;
+        size = next.size;
+        source = Some(next.source);
     }
     let input = SegmentInput {
-        source: &source,
+        source: source.as_ref(),
+        size,
         given,
         earlier,
     };
@@ -72,11 +81,13 @@ pub(crate) fn answer_alone<S: JobSegments, G: Gate>(
     job: usize,
     earlier: &Earlier<'_, S>,
 ) -> Result<S::Answer, NoMemory>
-    requires job { job < S.job_count }
-    ensures { IfOk result (λ answer. S.is_answer job answer) }
+    requires job { job < S.run.jobs }
+    ensures { IfOk result (λ answer. S.run.is_answer job answer) }
 {
     let answer = match jobs.given(alloc, job, earlier)? {
-        Begun::Walk(given) => walk_alone(alloc, gate, jobs, job, &given, earlier)?,
+        Begun::Walk { given, size } => {
+            walk_alone(alloc, gate, jobs, job, &given, size, earlier)?
+        }
         Begun::Known(answer) => answer,
     };
     gate.at_answer(job);

@@ -4,7 +4,7 @@ ghost use Rattle.completion_core.specs.Graph.{copies};
 ghost use Rattle.completion_core.specs.Legal.{count};
 ghost use Rattle.pending_count.specs.Views.{first_view};
 ghost use Rattle.pending_count.specs.Seats.{IsSeatOf, view_of};
-ghost use Rattle.job_runner.specs.Starts.{HasStarts, all_waiting};
+ghost use Rattle.job_runner.specs.Tasks.{HasStarts, all_waiting};
 ghost use Rattle.job_runner.specs.Waits.{nodes_in};
 
 use crate::NoMemory;
@@ -140,9 +140,9 @@ pub(crate) fn arm_all<S: JobSegments>(
     first: TableSeat<S>,
 ) -> Result<Option<(TableSeat<S>, Vec<Start>)>, NoMemory>
     requires table { IsSeatOf counts.now first }
-    requires first { view_of first ≡ first_view S.job_count }
+    requires first { view_of first ≡ first_view S.run.jobs }
     ensures table { IfOk result (λ armed. IfSome armed (λ a. IsSeatOf counts.now a.0)) }
-    ensures count { IfOk result (λ armed. IfSome armed (λ a. length a.1.items ≡ S.job_count)) }
+    ensures count { IfOk result (λ armed. IfSome armed (λ a. length a.1.items ≡ S.run.jobs)) }
     ensures has { IfOk result (λ armed. IfSome armed (λ a. HasStarts 0 a.1.items [] (view_of a.0))) }
 {
     let count = jobs.jobs();

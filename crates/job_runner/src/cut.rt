@@ -4,7 +4,7 @@ ghost use Rattle.trace.specs.declared.item.Fault.{Fault};
 ghost use Rattle.pending_count.specs.Pairs.{side_of};
 ghost use Rattle.pending_count.specs.declared.place.Side.TheVariants.{Whole};
 ghost use Rattle.job_runner.specs.Cuts.{begins, ends_at, Fits, IsPiece, IsSideOf, StandsWhole};
-ghost use Rattle.job_runner.specs.CutLaws.{stands_moved, stands_whole};
+ghost use Rattle.job_runner.specs.Cuts.{stands_moved, stands_whole};
 
 use crate::piece::Piece;
 use crate::segments::JobSegments;
@@ -108,9 +108,9 @@ impl<S: JobSegments> SegmentPart<S> {
 impl<S: JobSegments> PartValue for SegmentPart<S> {
     type Tag = CutPiece;
 
-    ghost fits = { λ cut side v. Fits S.stands_for S.faults_with (λ x. x.found) cut side v };
+    ghost fits = { λ cut side v. Fits S.run (λ x. x.found) cut side v };
 
-    ghost result = { λ cut v. StandsWhole S.stands_for S.faults_with S.size_of cut.job cut.segment (λ x. x.found) v };
+    ghost result = { λ cut v. StandsWhole S.run (λ x. x.found) cut.job cut.segment v };
 }
 
 /// Merges the parts of the two sides of a cut. A fault on a side goes on to the parent; at the top of a tree it is
@@ -120,10 +120,10 @@ pub struct Join<S: JobSegments> {
     pub(crate) cut: CutPiece,
     pub(crate) parent: Option<(CutPiece, bool)>,
     pub(crate) of: PhantomData<S>,
-    ghost piece: { IsPiece S.job_count S.last_of S.size_of cut.job cut.segment cut.from cut.to },
+    ghost piece: { IsPiece S.run.jobs S.run.last S.run.size cut.job cut.segment cut.from cut.to },
     ghost within: { (cut.from < cut.middle) × (cut.middle < cut.to) },
     ghost side: { (p : _) → parent ≡ Some p → IsSideOf cut p },
-    ghost top: { parent ≡ None → (cut.from ≡ 0) × (cut.to ≡ S.size_of cut.job cut.segment) },
+    ghost top: { parent ≡ None → (cut.from ≡ 0) × (cut.to ≡ S.run.size cut.job cut.segment) },
 }
 
 impl<S: JobSegments> Continuation<SegmentPart<S>> for Join<S> {
@@ -131,11 +131,10 @@ impl<S: JobSegments> Continuation<SegmentPart<S>> for Join<S> {
 
     ghost goes_to = { λ c. c.parent };
 
-    ghost leads = { λ c p e v h.
-        stands_moved S.stands_for S.faults_with S.size_of (λ x. x.found) v (c.side p e).0 (c.side p e).1 h };
+    ghost leads = { λ c p e v h. stands_moved S.run (λ x. x.found) v (c.side p e).0 (c.side p e).1 h };
 
-    ghost ends = { λ c e v h. stands_whole S.stands_for S.faults_with S.size_of
-        (λ x. x.found) v c.cut.job c.cut.segment (c.top e).0 (c.top e).1 h };
+    ghost ends = { λ c e v h.
+        stands_whole S.run (λ x. x.found) v c.cut.job c.cut.segment (c.top e).0 (c.top e).1 h };
 
     fn tag(&self) -> CutPiece {
         self.cut

@@ -20,7 +20,7 @@ pub trait EarlierAnswers<A> {
 pub struct Earlier<'a, S: JobSegments> {
     places: &'a [JobPlaces<S>],
     answers: &'a [S::Answer],
-    ghost are: { AreAnswers S.is_answer 0 answers.now } by { AreAnswers-prop S.is_answer S.one_answer 0 answers.now },
+    ghost are: { AreAnswers S.run.is_answer 0 answers.now } by { AreAnswers-prop S.run 0 answers.now },
 }
 
 impl<'a, S: JobSegments> Earlier<'a, S> {
@@ -34,7 +34,7 @@ impl<'a, S: JobSegments> Earlier<'a, S> {
 
     /// These answers, which the first jobs have.
     pub(crate) fn listed(answers: &'a [S::Answer]) -> Earlier<'a, S>
-        requires { AreAnswers S.is_answer 0 answers.now }
+        requires { AreAnswers S.run.is_answer 0 answers.now }
     {
         Earlier {
             places: &[],
@@ -44,7 +44,7 @@ impl<'a, S: JobSegments> Earlier<'a, S> {
 }
 
 impl<S: JobSegments> EarlierAnswers<S::Answer> for Earlier<'_, S> {
-    ghost is_answer = { S.is_answer };
+    ghost is_answer = { S.run.is_answer };
 
     #[tactic(auto, using(crate::proofs::AnswerLemmas::answer_got))]
     fn answer(&self, job: usize) -> Option<&S::Answer> {

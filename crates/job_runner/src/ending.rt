@@ -5,9 +5,9 @@ ghost use Rattle.job_runner.specs.Cuts.{StandsWhole};
 use crate::NoMemory;
 use crate::cut::{Merged, SegmentPart, TableKept, TablePart};
 use crate::earlier::Earlier;
-use crate::piece::SegmentInput;
 use crate::places::{
-    hold_source, keep_answer, keep_given, keep_source, kept_given, put_source, size_of,
+    KeptGiven, hold_source, input_of, keep_answer, keep_given, keep_source, kept_given, put_source,
+    size_of,
 };
 use crate::segments::{Begun, JobSegments};
 use crate::task::{
@@ -20,25 +20,22 @@ use worker_pool::{Gate, Spawn};
 /// The answer of a job, of the part of its whole last segment.
 fn last_answer<S: JobSegments, R: RunBrand>(
     work: &TableWork<S, R>,
-    job: usize,
+    kept: &KeptGiven<S>,
     segment: usize,
     part: S::Part,
-    given: &S::Given,
     scratch: &mut S::Scratch,
 ) -> Result<S::Answer, NoMemory>
-    requires known { job < S.job_count }
-    requires last { segment ≡ S.last_of job }
-    requires given { S.is_given job given.now }
-    requires part { S.stands_for job segment 0 (S.size_of job segment) part }
-    ensures { IfOk result (λ answer. S.is_answer job answer) }
+    requires known { kept.now.job < S.run.jobs }
+    requires last { segment ≡ S.run.last kept.now.job }
+    requires part { S.run.stands_for kept.now.job segment 0 (S.run.size kept.now.job segment) part }
+    ensures { IfOk result (λ answer. S.run.is_answer kept.now.job answer) }
 {
-    let held = hold_source(work.jobs, &work.places, job, segment).ok_or(NoMemory)?;
-    let input = SegmentInput {
-        source: held.source(job, segment).ok_or(NoMemory)?,
-        given,
-        earlier: &Earlier::in_places(&work.places),
+    let held = hold_source(&work.places, kept.job, segment);
+    let earlier = Earlier::in_places(&work.places);
+    let Some(input) = input_of(kept, held.as_ref(), &earlier, segment) else {
+        return Err(NoMemory);
     };
-    work.jobs.answer(work.alloc, job, part, input, scratch)
+    work.jobs.answer(work.alloc, kept.job, part, input, scratch)
 }
 
 impl<'a, S: JobSegments, R: RunBrand> JobWork<'a, S, TablePart<S>, TableKept<S>, R> {
@@ -50,7 +47,7 @@ impl<'a, S: JobSegments, R: RunBrand> JobWork<'a, S, TablePart<S>, TableKept<S>,
             .jobs
             .given(self.alloc, job, &Earlier::in_places(&self.places))
         {
-            Ok(Begun::Walk(given)) => keep_given(&self.places, job, given),
+            Ok(Begun::Walk { given, size }) => keep_given(&self.places, job, given, size),
             Ok(Begun::Known(answer)) => keep_answer(&self.places, gate, job, answer),
             Err(_refused) => {}
         }
@@ -65,20 +62,19 @@ impl<'a, S: JobSegments, R: RunBrand> JobWork<'a, S, TablePart<S>, TableKept<S>,
         part: S::Part,
         given: &S::Given,
     ) -> Option<(usize, u64)>
-        requires known { (job < S.job_count) × (segment < S.last_of job) }
+        requires known { (job < S.run.jobs) × (segment < S.run.last job) }
         requires next { segment + 1 < 2 ^ 64 }
-        requires given { S.is_given job given.now }
-        requires part { S.stands_for job segment 0 (S.size_of job segment) part }
-        ensures { IfSome result (λ next. (next.0 ≤ S.last_of job) × (next.1 ≡ S.size_of job next.0)) }
+        requires given { S.run.is_given job given.now }
+        requires part { S.run.stands_for job segment 0 (S.run.size job segment) part }
+        ensures { IfSome result (λ next. (next.0 ≤ S.run.last job) × (next.1 ≡ S.run.size job next.0)) }
     {
         put_source(&self.places, job, segment, None);
-        let Ok(source) = self.jobs.next_source(self.alloc, job, segment, part, given) else {
+        let Ok(next) = self.jobs.next_source(self.alloc, job, segment, part, given) else {
             return None;
         };
-        let next = segment + 1;
-        let size = self.jobs.size(job, next, &source, given);
-        keep_source(&self.places, job, next, source);
-        Some((next, size))
+        let size = next.size;
+        keep_source(&self.places, job, segment + 1, next);
+        Some((segment + 1, size))
     }
 
     /// Leaves what the part of a whole segment gives in its place, and frees the source of the segment. `Some` is the
@@ -91,15 +87,15 @@ impl<'a, S: JobSegments, R: RunBrand> JobWork<'a, S, TablePart<S>, TableKept<S>,
         part: S::Part,
         scratch: &mut S::Scratch,
     ) -> Option<(usize, u64)>
-        requires known { (job < S.job_count) × (segment ≤ S.last_of job) }
-        requires part { S.stands_for job segment 0 (S.size_of job segment) part }
-        ensures { IfSome result (λ next. (next.0 ≤ S.last_of job) × (next.1 ≡ S.size_of job next.0)) }
+        requires known { (job < S.run.jobs) × (segment ≤ S.run.last job) }
+        requires part { S.run.stands_for job segment 0 (S.run.size job segment) part }
+        ensures { IfSome result (λ next. (next.0 ≤ S.run.last job) × (next.1 ≡ S.run.size job next.0)) }
     {
-        let given = kept_given(&self.places, job)?;
+        let kept = kept_given(&self.places, job)?;
         if segment < self.jobs.last_segment(job) {
-            return self.leave_source(job, segment, part, given);
+            return self.leave_source(job, segment, part, &kept.given);
         }
-        if let Ok(answer) = last_answer(self, job, segment, part, given, scratch) {
+        if let Ok(answer) = last_answer(self, kept, segment, part, scratch) {
             keep_answer(&self.places, gate, job, answer);
         }
         put_source(&self.places, job, segment, None);
@@ -115,9 +111,9 @@ impl<'a, S: JobSegments, R: RunBrand> JobWork<'a, S, TablePart<S>, TableKept<S>,
         part: TablePart<S>,
         scratch: &mut S::Scratch,
     ) -> Option<(usize, u64)>
-        requires known { (job < S.job_count) × (segment ≤ S.last_of job) }
-        requires part { StandsWhole S.stands_for S.faults_with S.size_of job segment (λ x. x.found) part }
-        ensures { IfSome result (λ next. (next.0 ≤ S.last_of job) × (next.1 ≡ S.size_of job next.0)) }
+        requires known { (job < S.run.jobs) × (segment ≤ S.run.last job) }
+        requires part { StandsWhole S.run (λ x. x.found) job segment part }
+        ensures { IfSome result (λ next. (next.0 ≤ S.run.last job) × (next.1 ≡ S.run.size job next.0)) }
     {
         let Ok(SegmentPart { found, of: _ }) = part else {
             return None;
@@ -141,7 +137,7 @@ impl<'a, S: JobSegments, R: RunBrand> JobWork<'a, S, TablePart<S>, TableKept<S>,
         tools: &mut TableTools<'_, S, R, G, P>,
     ) -> Option<TableJobSeat<S, R>>
         requires { IfSome first (λ whole.
-            StandsWhole S.stands_for S.faults_with S.size_of whole.job.job whole.segment (λ x. x.found) whole.part) }
+            StandsWhole S.run (λ x. x.found) whole.job.job whole.segment whole.part) }
     {
         let mut ended = first;
         for _ in 0..u64::MAX {
@@ -163,7 +159,7 @@ impl<'a, S: JobSegments, R: RunBrand> JobWork<'a, S, TablePart<S>, TableKept<S>,
         tools: &mut TableTools<'_, S, R, G, P>,
     ) -> Option<TableJobSeat<S, R>> {
         self.prepare(tools.gate, begun.job);
-        let Some(size) = size_of(self.jobs, &self.places, begun.job, 0) else {
+        let Some(size) = size_of(&self.places, begun.job, 0) else {
             return Some(begun);
         };
         let first = self.begin(begun, 0, size, tools);

@@ -41,7 +41,7 @@ mod work;
 pub use cut::{CutPiece, Join, Merged, SegmentPart, TableCounts, TableKept, TablePart, TableSeat};
 pub use earlier::{Earlier, EarlierAnswers};
 pub use opening::{FreshCounts, TableFreshCounts};
-pub use piece::{Piece, SegmentInput};
+pub use piece::{NextSource, Piece, SegmentInput};
 pub use places::{JobPlaces, KeptAnswer, KeptGiven, KeptSource};
 pub use run::run_all;
 pub use run_nodes::RunNodes;

@@ -48,27 +48,27 @@ fn cuts_within(size: u64, longest: u64) -> u64 {
     cuts
 }
 
-/// How many segments of a job are walked in pieces, of those from this number on.
-fn divided_of_job<S: JobSegments>(jobs: &S, job: usize, from: usize) -> u64
-    requires { job < S.job_count }
+/// The most nodes that the segments of a job use, of those from this number on, if no piece is longer than `longest`. A
+/// segment that is walked in pieces is taken to have `size` positions at least.
+fn cuts_of_job<S: JobSegments>(jobs: &S, job: usize, from: usize, size: u64, longest: u64) -> u64
+    requires { job < S.run.jobs }
 {
-    let mut count = 0u64;
+    let mut cuts = 0u64;
     for segment in from..=jobs.last_segment(job) {
-        if jobs.is_divided(job, segment) {
-            count = count.saturating_add(1);
+        let likely = jobs.likely_size(job, segment);
+        if likely > 0 {
+            cuts = cuts.saturating_add(cuts_within(likely.max(size), longest));
         }
     }
-    count
+    cuts
 }
 
 /// The most nodes that the segments of all jobs use, of those from this number on in each job, if no piece is longer
-/// than `longest`. A segment is taken to have no more positions than the first one of its job, or than `size`.
+/// than `longest`.
 fn cuts_of_all<S: JobSegments>(jobs: &S, from: usize, size: u64, longest: u64) -> u64 {
     let mut cuts = 0u64;
     for job in 0..jobs.jobs() {
-        let divided = divided_of_job(jobs, job, from);
-        let each = cuts_within(jobs.likely_size(job).max(size), longest);
-        cuts = cuts.saturating_add(divided.saturating_mul(each));
+        cuts = cuts.saturating_add(cuts_of_job(jobs, job, from, size, longest));
     }
     cuts
 }
@@ -97,8 +97,8 @@ pub(crate) fn most_positions<S: JobSegments>(jobs: &S, settings: Settings) -> u6
 /// longer than `longest` are cut; 2^32 - 1 at most. A later segment may have more positions than the first one, as
 /// `flatMap` makes them, and how many isn't known before it begins.
 pub(crate) fn node_count<S: JobSegments>(jobs: &S, settings: Settings, longest: u64) -> u32
-    ensures starts { min S.job_count (2 ^ 32 - 1) ≤ result }
-    ensures few { result ≤ S.job_count + nodes_of settings }
+    ensures starts { min S.run.jobs (2 ^ 32 - 1) ≤ result }
+    ensures few { result ≤ S.run.jobs + nodes_of settings }
 {
     let share = share_of(u64::MAX, pieces_of_segment(settings));
     let all = cuts_of_all(jobs, 0, 0, longest)

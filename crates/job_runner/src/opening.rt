@@ -2,7 +2,7 @@
 ghost use Rattle.std.specs.Prelude.{◌≡◌, ◌<◌, ◌≤◌, [], length, IfOk, IfSome};
 ghost use Rattle.pending_count.specs.Seats.{table_of, view_of, IsSeatOf};
 ghost use Rattle.early_stop.specs.Seats.{IsSeatOf as IsStopSeatOf, table_of as stop_table_of, segments_of, count_of};
-ghost use Rattle.job_runner.specs.Starts.{HasStarts};
+ghost use Rattle.job_runner.specs.Tasks.{HasStarts};
 ghost use Rattle.job_runner.specs.Stops.{stop_id_of};
 
 use crate::NoMemory;
@@ -49,7 +49,7 @@ impl<S: JobSegments> FreshCounts<S, TablePart<S>, TableKept<S>> {
         jobs: &S,
         settings: Settings,
     ) -> Result<Option<TableFreshCounts<S>>, NoMemory>
-        ensures { IfOk result (λ o. IfSome o (λ opened. length opened.starts.items ≡ S.job_count)) }
+        ensures { IfOk result (λ o. IfSome o (λ opened. length opened.starts.items ≡ S.run.jobs)) }
     {
         let longest = most_positions(jobs, settings);
         let nodes = node_count(jobs, settings, longest);

@@ -1,11 +1,11 @@
 //! The part of a piece: walked, or left out.
 ghost use Rattle.std.specs.Prelude.{◌≡◌, IfOk};
-ghost use Rattle.job_runner.specs.Cuts.{IsPiece};
+ghost use Rattle.job_runner.specs.Cuts.{IsPieceOf, Stands};
 
 use crate::NoMemory;
 use crate::earlier::Earlier;
-use crate::piece::{Piece, SegmentInput};
-use crate::places::{hold_source, kept_given};
+use crate::piece::Piece;
+use crate::places::{KeptGiven, hold_source, input_of, kept_given};
 use crate::segments::JobSegments;
 use crate::task::RunBrand;
 use crate::tools::{TableTools, Tools};
@@ -16,20 +16,18 @@ use worker_pool::Gate;
 fn walked<S: JobSegments, R: RunBrand, G, P>(
     work: &TableWork<S, R>,
     piece: Piece,
-    given: &S::Given,
+    kept: &KeptGiven<S>,
     tools: &mut TableTools<'_, S, R, G, P>,
 ) -> Result<S::Part, NoMemory>
     requires watched { (tools.old.watch.job ≡ piece.job) × (tools.old.watch.segment ≡ piece.segment) }
-    requires piece { IsPiece S.job_count S.last_of S.size_of piece.job piece.segment piece.from piece.to }
-    requires given { S.is_given piece.job given.now }
-    ensures { IfOk result (λ part. S.stands_for piece.job piece.segment piece.from piece.to part) }
+    requires piece { IsPieceOf S.run piece }
+    requires given { kept.now.job ≡ piece.job }
+    ensures { IfOk result (λ part. Stands S.run piece part) }
 {
-    let Piece { job, segment, .. } = piece;
-    let held = hold_source(work.jobs, &work.places, job, segment).ok_or(NoMemory)?;
-    let input = SegmentInput {
-        source: held.source(job, segment).ok_or(NoMemory)?,
-        given,
-        earlier: &Earlier::in_places(&work.places),
+    let held = hold_source(&work.places, piece.job, piece.segment);
+    let earlier = Earlier::in_places(&work.places);
+    let Some(input) = input_of(kept, held.as_ref(), &earlier, piece.segment) else {
+        return Err(NoMemory);
     };
     let Tools { scratch, watch, .. } = tools;
     work.jobs.leaf(work.alloc, piece, input, scratch, watch)
@@ -43,15 +41,15 @@ pub(crate) fn part_of<S: JobSegments, R: RunBrand, G: Gate, P>(
     piece: Piece,
     tools: &mut TableTools<'_, S, R, G, P>,
 ) -> Result<S::Part, NoMemory>
-    requires piece { IsPiece S.job_count S.last_of S.size_of piece.job piece.segment piece.from piece.to }
-    ensures { IfOk result (λ part. S.stands_for piece.job piece.segment piece.from piece.to part) }
+    requires piece { IsPieceOf S.run piece }
+    ensures { IfOk result (λ part. Stands S.run piece part) }
 {
-    let given = kept_given(&work.places, piece.job).ok_or(NoMemory)?;
+    let kept = kept_given(&work.places, piece.job).ok_or(NoMemory)?;
     tools.watch.aim(piece.job, piece.segment);
     let seen = tools.watch.seen();
     if seen <= piece.from && seen != u64::MAX {
-        return Ok(work.jobs.left_out(work.alloc, piece, given));
+        return Ok(work.jobs.left_out(work.alloc, piece, &kept.given));
     }
     tools.gate.at_leaf(piece.job, piece.from, piece.to);
-    walked(work, piece, given, tools)
+    walked(work, piece, kept, tools)
 }

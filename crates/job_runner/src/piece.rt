@@ -25,10 +25,20 @@ impl Piece {
     }
 }
 
-/// What a segment of a job goes over, the job's inputs from the answers that it names, and those answers.
+/// What a segment of a job goes over, how many positions that has, the job's inputs from the answers that it names, and
+/// those answers.
 #[derive_where(Clone, Copy)]
-pub struct SegmentInput<'i, S, G, E> {
-    pub source: &'i S,
+pub struct SegmentInput<'s, 'i, S, G, E> {
+    /// `None` for the first segment, which goes over the source of the job.
+    pub source: Option<&'s S>,
+    pub size: u64,
     pub given: &'i G,
     pub earlier: &'i E,
+}
+
+/// What a segment after the first one goes over, and how many positions that has.
+#[derive(Drop)]
+pub struct NextSource<S> {
+    pub source: S,
+    pub size: u64,
 }

@@ -1,56 +1,40 @@
 //! The places in which tasks leave sources and answers for others.
-ghost use Rattle.std.specs.Prelude.{◌≡◌, ◌+◌, ◌-◌, ◌^◌, ◌<◌, ◌≤◌, ℕ, length, IfOk, IfSome};
+ghost use Rattle.std.specs.Prelude.{◌≡◌, ◌+◌, ◌-◌, ◌^◌, ◌<◌, ◌≤◌, ℕ, length, IfNone, IfOk, IfSome};
 ghost use Rattle.job_runner.specs.Stops.{first_word, pair_at};
 
 use crate::NoMemory;
+use crate::piece::{NextSource, SegmentInput};
 use crate::segments::JobSegments;
 use std::alloc::Global;
 use std::marker::PhantomData;
 use std::sync::{OnceLock, RwLock, RwLockReadGuard};
 use worker_pool::Gate;
 
-/// What a segment goes over, with the numbers of its job and of the segment.
+/// What a segment after the first one goes over, with its number of positions and the numbers of its job and of the
+/// segment.
 #[derive(Drop)]
 pub struct KeptSource<S: JobSegments> {
     pub(crate) job: usize,
     pub(crate) segment: usize,
     pub(crate) source: S::Source,
+    pub(crate) size: u64,
     pub(crate) of: PhantomData<S>,
-    ghost is: { S.is_source job segment source } by { S.one_source job segment source },
+    ghost is: { S.run.is_source job segment source } by { S.run.one_source job segment source },
+    ghost long: { size ≡ S.run.size job segment },
 }
 
-/// The source of a segment, while it is read.
-#[derive(Drop)]
-pub(crate) enum HeldSource<'w, S: JobSegments> {
-    /// The source of a job's first segment, which lies in no place.
-    First(KeptSource<S>),
-    /// A place, so that nobody empties it.
-    Place(RwLockReadGuard<'w, Option<KeptSource<S>>>),
-}
+/// The place of a source, held so that nobody empties it.
+pub(crate) type HeldSource<'w, S> = RwLockReadGuard<'w, Option<KeptSource<S>>>;
 
-impl<S: JobSegments> HeldSource<'_, S> {
-    /// The source of a segment, if it is held.
-    pub(crate) fn source(&self, job: usize, segment: usize) -> Option<&S::Source>
-        ensures { IfSome result (λ source. S.is_source job segment source.now) }
-    {
-        let held = match self {
-            HeldSource::First(kept) => Some(kept),
-            HeldSource::Place(place) => place.as_ref(),
-        };
-        match held {
-            Some(kept) if kept.job == job && kept.segment == segment => Some(&kept.source),
-            _ => None,
-        }
-    }
-}
-
-/// The inputs of a job from the answers that it names, with the number of the job.
+/// The inputs of a job from the answers that it names, with its number and how many positions its first segment has.
 #[derive(Drop)]
 pub struct KeptGiven<S: JobSegments> {
     pub(crate) job: usize,
     pub(crate) given: S::Given,
+    pub(crate) size: u64,
     pub(crate) of: PhantomData<S>,
-    ghost is: { S.is_given job given } by { S.one_given job given },
+    ghost is: { S.run.is_given job given } by { S.run.one_given job given },
+    ghost long: { size ≡ S.run.size job 0 },
 }
 
 /// A job's answer, with the number of the job.
@@ -59,7 +43,7 @@ pub struct KeptAnswer<S: JobSegments> {
     pub(crate) job: usize,
     pub(crate) answer: S::Answer,
     pub(crate) of: PhantomData<S>,
-    ghost is: { S.is_answer job answer } by { S.one_answer job answer },
+    ghost is: { S.run.is_answer job answer } by { S.run.one_answer job answer },
 }
 
 /// The places of one job: for what it takes of earlier answers, for the source of each segment but the first, and for
@@ -72,7 +56,7 @@ pub struct JobPlaces<S: JobSegments> {
     pub(crate) given: OnceLock<KeptGiven<S>>,
     pub(crate) sources: Vec<RwLock<Option<KeptSource<S>>>>,
     pub(crate) answer: OnceLock<KeptAnswer<S>>,
-    ghost first_is: { first < 2 ^ 64 - 1 → first ≡ first_word S.last_of job },
+    ghost first_is: { first < 2 ^ 64 - 1 → first ≡ first_word S.run.last job },
 }
 
 /// The empty places of a job whose last segment has this number.
@@ -82,7 +66,7 @@ fn places_of_job<S: JobSegments>(
     last: usize,
     first: u64,
 ) -> Result<JobPlaces<S>, NoMemory>
-    requires { first < 2 ^ 64 - 1 → first ≡ first_word S.last_of job }
+    requires { first < 2 ^ 64 - 1 → first ≡ first_word S.run.last job }
     ensures { IfOk result (λ places. length places.sources.items ≡ last) }
 {
     let mut sources = Vec::new(alloc);
@@ -100,18 +84,18 @@ fn places_of_job<S: JobSegments>(
 
 /// The number of the first segment of the next job, if it is small enough; else the greatest u64.
 fn first_of_next<S: JobSegments>(job: usize, last: usize, first: u64) -> u64
-    requires last { last ≡ S.last_of job }
-    requires first { first < 2 ^ 64 - 1 → first ≡ first_word S.last_of job }
-    ensures { result < 2 ^ 64 - 1 → result ≡ first_word S.last_of (job + 1) }
+    requires last { last ≡ S.run.last job }
+    requires first { first < 2 ^ 64 - 1 → first ≡ first_word S.run.last job }
+    ensures { result < 2 ^ 64 - 1 → result ≡ first_word S.run.last (job + 1) }
 {
     first.saturating_add(last as u64).saturating_add(1)
 }
 
 /// The number of a segment among all segments of the run, if it is known; else the greatest u32.
 pub(crate) fn word_of<S: JobSegments>(places: &[JobPlaces<S>], job: usize, segment: usize) -> u32
-    requires job { job < S.job_count }
-    requires segment { segment ≤ S.last_of job }
-    ensures { result < 2 ^ 32 - 1 → pair_at S.last_of S.job_count result ≡ (job, segment) }
+    requires job { job < S.run.jobs }
+    requires segment { segment ≤ S.run.last job }
+    ensures { result < 2 ^ 32 - 1 → pair_at S.run.last S.run.jobs result ≡ (job, segment) }
 {
     match places.get(job) {
         Some(of_job) if of_job.job == job => word_after(of_job.first, segment),
@@ -132,7 +116,7 @@ pub(crate) fn empty_places<S: JobSegments>(
     alloc: Global,
     jobs: &S,
 ) -> Result<Vec<JobPlaces<S>>, NoMemory>
-    ensures { IfOk result (λ places. length places.items ≡ S.job_count) }
+    ensures { IfOk result (λ places. length places.items ≡ S.run.jobs) }
 {
     let mut places = Vec::new(alloc);
     let mut first = 0;
@@ -175,77 +159,127 @@ pub(crate) fn keep_source<S: JobSegments>(
     places: &[JobPlaces<S>],
     job: usize,
     segment: usize,
-    source: S::Source,
+    next: NextSource<S::Source>,
 )
-    requires { S.is_source job segment source }
+    requires source { S.run.is_source job segment next.source }
+    requires size { next.size ≡ S.run.size job segment }
 {
+    let NextSource { source, size } = next;
     let kept = KeptSource {
         job,
         segment,
         source,
+        size,
         of: PhantomData,
     };
     put_source(places, job, segment, Some(kept));
 }
 
-/// Holds the source of a segment. It doesn't wait.
-pub(crate) fn hold_source<'w, S: JobSegments>(
-    jobs: &S,
-    places: &'w [JobPlaces<S>],
+/// Holds the place of a segment's source, if it has one: the first segment has none. It doesn't wait.
+pub(crate) fn hold_source<S: JobSegments>(
+    places: &[JobPlaces<S>],
     job: usize,
     segment: usize,
-) -> Option<HeldSource<'w, S>>
-    requires { job < S.job_count }
-{
-    if segment == 0 {
-        return Some(HeldSource::First(KeptSource {
-            job,
-            segment: 0,
-            source: jobs.first_source(job),
-            of: PhantomData,
-        }));
-    }
-    let place = source_place(places, job, segment)?.try_read()?;
-    Some(HeldSource::Place(place))
+) -> Option<HeldSource<'_, S>> {
+    source_place(places, job, segment)?.try_read()
 }
 
-/// Leaves what a job takes of earlier answers in its place.
-pub(crate) fn keep_given<S: JobSegments>(places: &[JobPlaces<S>], job: usize, given: S::Given)
-    requires { S.is_given job given }
+/// The source of a segment, if it lies in this place.
+fn source_in<'w, S: JobSegments>(
+    held: &'w HeldSource<'_, S>,
+    job: usize,
+    segment: usize,
+) -> Option<&'w KeptSource<S>>
+    ensures { IfSome result (λ kept. (kept.now.job ≡ job) × (kept.now.segment ≡ segment)) }
+{
+    match held.as_ref() {
+        Some(kept) if kept.job == job && kept.segment == segment => Some(kept),
+        _ => None,
+    }
+}
+
+/// What a segment is walked with, if it is there. `held` is the place of its source, if it has one.
+pub(crate) fn input_of<'s, 'i, S: JobSegments, E>(
+    kept: &'i KeptGiven<S>,
+    held: Option<&'s HeldSource<'_, S>>,
+    earlier: &'i E,
+    segment: usize,
+) -> Option<SegmentInput<'s, 'i, S::Source, S::Given, E>>
+    ensures first { IfSome result (λ input. IfNone input.source (segment ≡ 0)) }
+    ensures source { IfSome result (λ input. IfSome input.source
+        (λ source. S.run.is_source kept.now.job segment source.now)) }
+    ensures size { IfSome result (λ input. input.size ≡ S.run.size kept.now.job segment) }
+    ensures given { IfSome result (λ input. S.run.is_given kept.now.job input.given.now) }
+{
+    let KeptGiven {
+        job,
+        given,
+        size,
+        ..
+    } = kept;
+    if segment == 0 {
+        return Some(SegmentInput {
+            source: None,
+            size: *size,
+            given,
+            earlier,
+        });
+    }
+    let KeptSource { source, size, .. } = source_in(held?, *job, segment)?;
+    Some(SegmentInput {
+        source: Some(source),
+        size: *size,
+        given,
+        earlier,
+    })
+}
+
+/// Leaves what a job takes of earlier answers in its place, and how many positions its first segment has.
+pub(crate) fn keep_given<S: JobSegments>(
+    places: &[JobPlaces<S>],
+    job: usize,
+    given: S::Given,
+    size: u64,
+)
+    requires given { S.run.is_given job given }
+    requires size { size ≡ S.run.size job 0 }
 {
     if let Some(of_job) = places.get(job) {
         let _ = of_job.given.try_set(KeptGiven {
             job,
             given,
+            size,
             of: PhantomData,
         });
     }
 }
 
 /// What a job takes of earlier answers, if it was left in its place.
-pub(crate) fn kept_given<S: JobSegments>(places: &[JobPlaces<S>], job: usize) -> Option<&S::Given>
-    ensures { IfSome result (λ given. S.is_given job given.now) }
+pub(crate) fn kept_given<S: JobSegments>(
+    places: &[JobPlaces<S>],
+    job: usize,
+) -> Option<&KeptGiven<S>>
+    ensures { IfSome result (λ kept. kept.now.job ≡ job) }
 {
     match places.get(job)?.given.get() {
-        Some(kept) if kept.job == job => Some(&kept.given),
+        Some(kept) if kept.job == job => Some(kept),
         _ => None,
     }
 }
 
-/// How many positions the source of a segment has, if it is there, and what the job takes of earlier answers.
+/// How many positions a segment has, if what it goes over is there.
 pub(crate) fn size_of<S: JobSegments>(
-    jobs: &S,
     places: &[JobPlaces<S>],
     job: usize,
     segment: usize,
 ) -> Option<u64>
-    requires known { (job < S.job_count) × (segment ≤ S.last_of job) }
-    ensures { IfSome result (λ size. size ≡ S.size_of job segment) }
+    ensures { IfSome result (λ size. size ≡ S.run.size job segment) }
 {
-    let given = kept_given(places, job)?;
-    let held = hold_source(jobs, places, job, segment)?;
-    let source = held.source(job, segment)?;
-    Some(jobs.size(job, segment, source, given))
+    if segment == 0 {
+        return Some(kept_given(places, job)?.size);
+    }
+    let held = hold_source(places, job, segment)?;
+    Some(source_in(&held, job, segment)?.size)
 }
 
 /// Leaves the answer of a job in its place, and calls the gate.
@@ -255,7 +289,7 @@ pub(crate) fn keep_answer<S: JobSegments, G: Gate>(
     job: usize,
     answer: S::Answer,
 )
-    requires { S.is_answer job answer }
+    requires { S.run.is_answer job answer }
 {
     if let Some(of_job) = places.get(job) {
         let _ = of_job.answer.try_set(KeptAnswer {
@@ -269,7 +303,7 @@ pub(crate) fn keep_answer<S: JobSegments, G: Gate>(
 
 /// The answer of a job, if it was left in its place.
 pub(crate) fn kept_answer<S: JobSegments>(places: &[JobPlaces<S>], job: usize) -> Option<&S::Answer>
-    ensures { IfSome result (λ answer. S.is_answer job answer.now) }
+    ensures { IfSome result (λ answer. S.run.is_answer job answer.now) }
 {
     match places.get(job)?.answer.get() {
         Some(kept) if kept.job == job => Some(&kept.answer),
@@ -279,7 +313,7 @@ pub(crate) fn kept_answer<S: JobSegments>(places: &[JobPlaces<S>], job: usize) -
 
 /// Takes the answer of a job out of its places, if it was left there.
 pub(crate) fn answer_in<S: JobSegments>(places: JobPlaces<S>, job: usize) -> Option<S::Answer>
-    ensures { IfSome result (λ answer. S.is_answer job answer) }
+    ensures { IfSome result (λ answer. S.run.is_answer job answer) }
 {
     match places.answer.into_inner() {
         Some(kept) if kept.job == job => Some(kept.answer),

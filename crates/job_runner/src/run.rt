@@ -2,7 +2,7 @@
 ghost use Rattle.std.specs.Prelude.{◌≡◌, ◌-◌, ◌<◌, ◌≤◌, ℕ, IfOk, length};
 ghost use Rattle.completer_tree.specs.Trees.{table_id_of};
 ghost use Rattle.job_runner.specs.Answers.{AreAnswers};
-ghost use Rattle.job_runner.specs.Starts.{kept_at, node_at};
+ghost use Rattle.job_runner.specs.Tasks.{kept_at, node_at};
 ghost use Rattle.job_runner.specs.Stops.{stop_id_of};
 
 use crate::NoMemory;
@@ -29,8 +29,8 @@ fn read_answer<S: JobSegments, G: Gate>(
     places: Option<JobPlaces<S>>,
     earlier: &Earlier<'_, S>,
 ) -> Result<S::Answer, NoMemory>
-    requires job { job < S.job_count }
-    ensures { IfOk result (λ answer. S.is_answer job answer) }
+    requires job { job < S.run.jobs }
+    ensures { IfOk result (λ answer. S.run.is_answer job answer) }
 {
     if let Some(places) = places {
         if let Some(answer) = answer_in(places, job) {
@@ -48,8 +48,8 @@ fn read_answers<S: JobSegments, G: Gate>(
     jobs: &S,
     places: Vec<JobPlaces<S>>,
 ) -> Result<Vec<S::Answer>, NoMemory>
-    ensures count { IfOk result (λ answers. length answers.items ≡ S.job_count) }
-    ensures each { IfOk result (λ answers. AreAnswers S.is_answer 0 answers.items) }
+    ensures count { IfOk result (λ answers. length answers.items ≡ S.run.jobs) }
+    ensures each { IfOk result (λ answers. AreAnswers S.run.is_answer 0 answers.items) }
 {
     let mut answers = Vec::new(alloc);
     let mut places = places.into_iter();
@@ -100,13 +100,13 @@ where
     S::Answer: Send + Sync,
     S::Given: Send + Sync,
     S::Scratch: Send,
-    requires count { length opened.starts.items ≡ S.job_count }
+    requires count { length opened.starts.items ≡ S.run.jobs }
     requires started { (j : ℕ) → (R.start j ≡ node_at opened.starts.items (R.jobs - 1 - j))
         × (R.keeps j ≡ kept_at opened.starts.items (R.jobs - 1 - j)) }
     requires table { table_id_of opened.counts ≡ R.table }
     requires stops { stop_id_of opened.stops ≡ R.stops }
-    requires planned { (R.jobs ≡ S.job_count) × ((j : ℕ) → R.last j ≡ S.last_of j)
-        × ((j k : ℕ) → R.size j k ≡ S.size_of j k) }
+    requires planned { (R.jobs ≡ S.run.jobs) × ((j : ℕ) → R.last j ≡ S.run.last j)
+        × ((j k : ℕ) → R.size j k ≡ S.run.size j k) }
 {
     let (work, tasks, idles) = TableWork::<S, R>::new(alloc, jobs, settings, opened)?;
     // There are never more tasks than nodes.
@@ -133,8 +133,8 @@ where
     S::Answer: Send + Sync,
     S::Given: Send + Sync,
     S::Scratch: Send,
-    ensures count { IfOk result (λ answers. length answers.items ≡ S.job_count) }
-    ensures each { IfOk result (λ answers. AreAnswers S.is_answer 0 answers.items) }
+    ensures count { IfOk result (λ answers. length answers.items ≡ S.run.jobs) }
+    ensures each { IfOk result (λ answers. AreAnswers S.run.is_answer 0 answers.items) }
 {
     let places = match TableFreshCounts::<S>::new(alloc, jobs, settings)? {
         Some(opened) => run_on::<S, Brand, H, G>(rt, alloc, gate, jobs, settings, opened)?,

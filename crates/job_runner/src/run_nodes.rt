@@ -1,9 +1,8 @@
 //! Arrivals at the start nodes of jobs, and the jobs that may begin by them.
 ghost use Rattle.std.specs.Prelude.{◌≡◌, ◌<◌, ◌+◌, ◌-◌, ◌++◌, ◌∷◌, ℕ, [], drop, length};
 ghost use Rattle.completer_tree.specs.Trees.{table_id_of};
-ghost use Rattle.job_runner.specs.Starts.{kept_at, node_at};
 ghost use Rattle.job_runner.specs.Waits.{nodes_in};
-ghost use Rattle.job_runner.specs.Tasks.{CanArrive, HasKept};
+ghost use Rattle.job_runner.specs.Tasks.{kept_at, node_at, CanArrive, HasKept};
 
 use crate::cut::CutPiece;
 use crate::start::{Start, Waiting};

@@ -17,9 +17,9 @@ impl<S: JobSegments> early_stop::Segments for RunSegments<S> {
 
     ghost count = { λ z. z.count };
 
-    ghost source = { λ _ i. S.goes_over (pair_at S.last_of S.job_count i).0 (pair_at S.last_of S.job_count i).1 };
+    ghost source = { λ _ i. S.run.goes_over (pair_at S.run.last S.run.jobs i).0 (pair_at S.run.last S.run.jobs i).1 };
 
-    ghost outcome = { λ _ i. S.gives (pair_at S.last_of S.job_count i).0 (pair_at S.last_of S.job_count i).1 };
+    ghost outcome = { λ _ i. S.run.gives (pair_at S.run.last S.run.jobs i).0 (pair_at S.run.last S.run.jobs i).1 };
 
     fn segments(&self) -> u32 {
         self.count

@@ -6,8 +6,7 @@ ghost use Rattle.pending_count.specs.Seats.{table_of, view_of};
 ghost use Rattle.completer_tree.specs.Trees.{CanFork};
 ghost use Rattle.early_stop.specs.Seats.{table_of as stop_table_of};
 ghost use Rattle.job_runner.specs.Cuts.{IsPiece, begins, ends_at};
-ghost use Rattle.job_runner.specs.Starts.{nodes_below};
-ghost use Rattle.job_runner.specs.Tasks.{HasKept, KnowsStarts, KnowsTop};
+ghost use Rattle.job_runner.specs.Tasks.{nodes_below, HasKept, KnowsStarts, KnowsTop};
 
 use crate::cut::{CutPiece, TableKept, TablePart};
 use crate::segments::JobSegments;

@@ -1,7 +1,7 @@
 //! Pieces: cut in two while they are long, and walked.
 ghost use Rattle.std.specs.Prelude.{◌≡◌, ◌+◌, ◌<◌, ◌≤◌, IfErr, IfOk, IfSome};
 ghost use Rattle.trace.specs.declared.item.Fault.{Fault};
-ghost use Rattle.job_runner.specs.Cuts.{HandedIn, IfMerged, IsPiece, StandsWhole, begins, ends_at, positions_at};
+ghost use Rattle.job_runner.specs.Cuts.{HandedIn, IfMerged, IsPieceOf, StandsWhole, begins, ends_at, positions_at};
 
 use crate::NoMemory;
 use crate::cut::{CutPiece, Join, SegmentPart, TableKept, TablePart, is_left, side_at};
@@ -23,26 +23,29 @@ use trace::Fault;
 use worker_pool::{Gate, Spawn};
 
 /// Walks a piece. What is handed in for it: its part, or the fault that ends it, if the job gives an answer in its
-/// place.
+/// place. The watch then asks about its segment.
 fn handed<S: JobSegments, R: RunBrand, G: Gate, P>(
     work: &TableWork<S, R>,
     piece: Piece,
     tools: &mut TableTools<'_, S, R, G, P>,
 ) -> TablePart<S>
-    requires piece { IsPiece S.job_count S.last_of S.size_of piece.job piece.segment piece.from piece.to }
-    ensures handed { HandedIn S.stands_for S.faults_with
-        (λ x. x.found) piece.job piece.segment piece.from piece.to result }
+    requires piece { IsPieceOf S.run piece }
+    ensures handed { HandedIn S.run (λ x. x.found) piece.job piece.segment piece.from piece.to result }
     ensures caught { IfOk result (λ x.
-        IfMerged (λ part. (fault : Fault) → S.is_caught piece.job piece.segment part fault → ⊥) ⊥ x.found) }
+        IfMerged (λ part. (fault : Fault) → S.run.is_caught piece.job piece.segment part fault → ⊥) ⊥ x.found) }
 {
     let Ok(part) = part_of(work, piece, tools) else {
         return Err(Failure::NoMemory);
     };
-    let Some(given) = kept_given(&work.places, piece.job) else {
+    let Some(kept) = kept_given(&work.places, piece.job) else {
         return Err(Failure::NoMemory);
     };
-    match work.jobs.fault(piece, given, &part) {
-        Some(fault) => Err(Failure::Fault(fault)),
+    tools.watch.aim(piece.job, piece.segment);
+    match work.jobs.fault(piece, &kept.given, &part) {
+        Some(fault) => {
+            tools.watch.settle(piece, &part);
+            Err(Failure::Fault(fault))
+        }
         None => Ok(SegmentPart::of_part(part)),
     }
 }
@@ -54,14 +57,12 @@ fn leaf<S: JobSegments, R: RunBrand, G: Gate, P>(
     side: TableSideTask<S, R>,
     tools: &mut TableTools<'_, S, R, G, P>,
 ) -> Option<TableFinishedSegment<S, R>>
-    ensures { IfSome result (λ whole. StandsWhole S.stands_for S.faults_with S.size_of whole.job.job whole.segment
-        (λ x. x.found) whole.part) }
+    ensures { IfSome result (λ whole. StandsWhole S.run (λ x. x.found) whole.job.job whole.segment whole.part) }
 {
     let Half { seat, place } = side.half;
     let cut = place.tag;
     let value = handed(work, side_at(&place), tools);
     let tree = Tree::new(&work.nodes.counts, &[]);
-    tools.watch.aim(cut.job, cut.segment);
     let (seat, found) = tree.try_complete_with(seat, Some(place), value, &mut tools.watch);
     let Some(part) = found else {
         return None;
@@ -80,7 +81,7 @@ fn leaf<S: JobSegments, R: RunBrand, G: Gate, P>(
 
 /// Whether a place at or before the first position of a piece is known to decide what the segment gives.
 fn is_left_out<S: JobSegments, R: RunBrand>(watch: &mut Watch<'_, S, R>, piece: Piece) -> bool
-    requires known { (piece.job < S.job_count) × (piece.segment ≤ S.last_of piece.job) }
+    requires known { (piece.job < S.run.jobs) × (piece.segment ≤ S.run.last piece.job) }
 {
     watch.aim(piece.job, piece.segment);
     watch.seen() <= piece.from
@@ -93,10 +94,10 @@ fn longest_of<S: JobSegments, R: RunBrand>(
     job: usize,
     segment: usize,
 ) -> u64
-    requires known { (job < S.job_count) × (segment ≤ S.last_of job) }
+    requires known { (job < S.run.jobs) × (segment ≤ S.run.last job) }
     ensures { 0 < result }
 {
-    match size_of(work.jobs, &work.places, job, segment) {
+    match size_of(&work.places, job, segment) {
         Some(size) => work.threshold.max(share_of(size, work.pieces)),
         None => work.threshold,
     }
@@ -153,8 +154,7 @@ impl<'a, S: JobSegments, R: RunBrand> JobWork<'a, S, TablePart<S>, TableKept<S>,
         side: TableSideTask<S, R>,
         tools: &mut TableTools<'_, S, R, G, P>,
     ) -> Option<TableFinishedSegment<S, R>>
-        ensures { IfSome result (λ whole. StandsWhole S.stands_for S.faults_with S.size_of whole.job.job whole.segment
-            (λ x. x.found) whole.part) }
+        ensures { IfSome result (λ whole. StandsWhole S.run (λ x. x.found) whole.job.job whole.segment whole.part) }
     {
         let piece = side_at(&side.half.place);
         let longest = longest_of(self, piece.job, piece.segment);
@@ -175,8 +175,7 @@ impl<'a, S: JobSegments, R: RunBrand> JobWork<'a, S, TablePart<S>, TableKept<S>,
         other: TableSideTask<S, R>,
         tools: &mut TableTools<'_, S, R, G, P>,
     ) -> Option<TableFinishedSegment<S, R>>
-        ensures { IfSome result (λ whole. StandsWhole S.stands_for S.faults_with S.size_of whole.job.job whole.segment
-            (λ x. x.found) whole.part) }
+        ensures { IfSome result (λ whole. StandsWhole S.run (λ x. x.found) whole.job.job whole.segment whole.part) }
     {
         let pushed = tools.spawn.push(Task::Walk(other));
         let first = self.walk(own, tools);
@@ -198,8 +197,7 @@ fn walk_whole<S: JobSegments, R: RunBrand, G: Gate, P>(
 ) -> TableFinishedSegment<S, R>
     requires known { segment ≤ R.last job.job }
     requires size { size ≡ R.size job.job segment }
-    ensures { StandsWhole S.stands_for S.faults_with S.size_of result.job.job result.segment
-        (λ x. x.found) result.part }
+    ensures { StandsWhole S.run (λ x. x.found) result.job.job result.segment result.part }
 {
     let all = Piece::all(job.job, segment, size);
     let part = match part_of(work, all, tools) {
@@ -262,10 +260,9 @@ impl<'a, S: JobSegments, R: RunBrand> JobWork<'a, S, TablePart<S>, TableKept<S>,
     ) -> Option<TableFinishedSegment<S, R>>
         requires known { segment ≤ R.last begun.job }
         requires size { size ≡ R.size begun.job segment }
-        ensures { IfSome result (λ whole. StandsWhole S.stands_for S.faults_with S.size_of whole.job.job whole.segment
-            (λ x. x.found) whole.part) }
+        ensures { IfSome result (λ whole. StandsWhole S.run (λ x. x.found) whole.job.job whole.segment whole.part) }
     {
-        if size <= self.threshold || !self.jobs.is_divided(begun.job, segment) {
+        if size <= self.threshold {
             return Some(walk_whole(self, begun, segment, size, tools));
         }
         let paid = self.nodes.pay(self.share, begun, &mut tools.spare);

@@ -1,8 +1,9 @@
 //! What a worker asks the words of early stop before it walks, and when it lowers them.
-ghost use Rattle.std.specs.Prelude.{◌≡◌, ◌-◌, ◌^◌, ◌<◌, ◌≤◌, true};
-ghost use Rattle.early_stop.specs.Decisive.{Decides, IsDecisive};
+ghost use Rattle.std.specs.Prelude.{◌≡◌, ◌-◌, ◌^◌, ◌<◌, ◌≤◌};
+ghost use Rattle.early_stop.specs.Decisive.{IsDecisive};
 ghost use Rattle.early_stop.specs.Seats.{table_of as stop_table_of, segments_of, count_of};
-ghost use Rattle.job_runner.specs.Cuts.{HandedIn};
+ghost use Rattle.job_runner.specs.Cuts.{Stands};
+ghost use Rattle.job_runner.specs.Runs.{DecidesIn};
 ghost use Rattle.job_runner.specs.Stops.{pair_at, stop_id_of};
 
 use crate::cut::{CutPiece, Merged, SegmentPart, TablePart, side_at};
@@ -11,7 +12,7 @@ use crate::places::{JobPlaces, size_of, word_of};
 use crate::segments::JobSegments;
 use crate::stopping::RunStops;
 use crate::task::RunBrand;
-use completer_tree::{Failure, Looker};
+use completer_tree::Looker;
 use early_stop::{CutSeat, Stop};
 use pending_count::{Place, Side};
 use std::marker::PhantomData;
@@ -30,14 +31,14 @@ pub struct Watch<'w, S: JobSegments, R: RunBrand> {
     pub(crate) of: PhantomData<R>,
     ghost seated: { (stop_table_of seat ≡ R.stops) × (stop_id_of stops.now ≡ R.stops) },
     ghost counted: { count_of stops.now ≡ (segments_of stops.now).count },
-    ghost named: { word < 2 ^ 32 - 1 → (pair_at S.last_of S.job_count word ≡ (job, segment)) × (job < S.job_count)
-        × (segment ≤ S.last_of job) },
+    ghost named: { word < 2 ^ 32 - 1 → (pair_at S.run.last S.run.jobs word ≡ (job, segment)) × (job < S.run.jobs)
+        × (segment ≤ S.run.last job) },
 }
 
 impl<S: JobSegments, R: RunBrand> Watch<'_, S, R> {
     /// From here on the segment is asked about.
     pub(crate) fn aim(&mut self, job: usize, segment: usize)
-        requires known { (job < S.job_count) × (segment ≤ S.last_of job) }
+        requires known { (job < S.run.jobs) × (segment ≤ S.run.last job) }
         ensures { (self.new.job ≡ job) × (self.new.segment ≡ segment) }
     {
         self.word = word_of(self.places, job, segment);
@@ -47,8 +48,8 @@ impl<S: JobSegments, R: RunBrand> Watch<'_, S, R> {
 
     /// A place that decides what the segment gives; the greatest u64 if none is known. One load.
     pub(crate) fn seen(&mut self) -> u64
-        ensures decisive { IsDecisive (S.gives self.old.job self.old.segment)
-            (S.goes_over self.old.job self.old.segment) result }
+        ensures decisive { IsDecisive (S.run.gives self.old.job self.old.segment)
+            (S.run.goes_over self.old.job self.old.segment) result }
         ensures same { (self.new.job ≡ self.old.job) × (self.new.segment ≡ self.old.segment) }
     {
         if self.word < self.stops.segments() {
@@ -60,41 +61,35 @@ impl<S: JobSegments, R: RunBrand> Watch<'_, S, R> {
 
     /// Lowers the word of the segment to a place that decides what it gives. One `fetch_min`.
     fn lower(&mut self, place: u64)
-        requires decisive { Decides (S.gives self.old.job self.old.segment)
-            (S.goes_over self.old.job self.old.segment) place }
+        requires decisive { DecidesIn S.run self.old.job self.old.segment place }
     {
         if self.word < self.stops.segments() {
             self.stops.lower_with(&mut self.seat, self.word, place);
         }
     }
+
+    /// Lowers the word of the segment to the end of a piece with this part, if nothing after that matters.
+    pub(crate) fn settle(&mut self, piece: Piece, part: &S::Part)
+        requires known { (piece.job < S.run.jobs) × (piece.segment ≤ S.run.last piece.job) }
+        requires aimed { (self.old.job ≡ piece.job) × (self.old.segment ≡ piece.segment) }
+        requires part { Stands S.run piece part.now }
+    {
+        let Some(size) = size_of(self.places, piece.job, piece.segment) else {
+            return;
+        };
+        if piece.from <= piece.to && piece.to < size && self.jobs.is_settled(piece, part) {
+            self.lower(piece.to);
+        }
+    }
 }
 
 impl<S: JobSegments, R: RunBrand> Stop for Watch<'_, S, R> {
-    ghost decides = { λ w c. Decides (S.gives w.job w.segment) (S.goes_over w.job w.segment) c };
+    ghost decides = { λ w c. DecidesIn S.run w.job w.segment c };
 
     fn place(&mut self) -> u64 {
         // With more workers than processors, the one that knows the place may be waiting for this worker's processor.
         yield_now();
         self.seen()
-    }
-}
-
-/// Whether nothing after a piece matters for which this is handed in.
-fn settles<S: JobSegments>(jobs: &S, piece: Piece, value: &TablePart<S>) -> bool
-    requires known { (piece.job < S.job_count) × (piece.segment ≤ S.last_of piece.job) }
-    requires within { (piece.from ≤ piece.to) × (piece.to < S.size_of piece.job piece.segment) }
-    requires handed { HandedIn S.stands_for S.faults_with
-        (λ x. x.found) piece.job piece.segment piece.from piece.to value.now }
-    ensures { result ≡ true
-        → Decides (S.gives piece.job piece.segment) (S.goes_over piece.job piece.segment) piece.to }
-{
-    match value {
-        Ok(handed) => match &handed.found {
-            Merged::Part(part) => jobs.is_settled(piece, part),
-            Merged::Caught => false,
-        },
-        Err(Failure::Fault(fault)) => jobs.is_settled_by(piece, *fault),
-        Err(Failure::NoMemory) => false,
     }
 }
 
@@ -107,12 +102,11 @@ impl<S: JobSegments, R: RunBrand> Looker<SegmentPart<S>> for Watch<'_, S, R> {
         {
             return;
         }
-        let piece = side_at(at);
-        let Some(size) = size_of(self.jobs, self.places, piece.job, piece.segment) else {
+        let Ok(handed) = value else {
             return;
         };
-        if piece.from <= piece.to && piece.to < size && settles(self.jobs, piece, value) {
-            self.lower(piece.to);
+        if let Merged::Part(part) = &handed.found {
+            self.settle(side_at(at), part);
         }
     }
 }

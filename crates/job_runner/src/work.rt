@@ -5,7 +5,7 @@ ghost use Rattle.pending_count.specs.Seats.{actor_of, view_of};
 ghost use Rattle.completer_tree.specs.Trees.{table_id_of};
 ghost use Rattle.early_stop.specs.Seats.{table_of as stop_table_of, segments_of, count_of};
 ghost use Rattle.job_runner.specs.Stops.{stop_id_of};
-ghost use Rattle.job_runner.specs.Starts.{kept_at, node_at};
+ghost use Rattle.job_runner.specs.Tasks.{kept_at, node_at};
 
 use crate::NoMemory;
 use crate::cut::{CutPiece, TableKept, TablePart};
@@ -39,8 +39,8 @@ pub struct JobWork<'a, S: JobSegments, V, K: Fits<V, Tag = CutPiece>, R: RunBran
     pub(crate) share: u64,
     pub(crate) places: Vec<JobPlaces<S>>,
     pub(crate) stops: RunStops<S>,
-    ghost planned: { (R.jobs ≡ S.job_count) × ((j : ℕ) → R.last j ≡ S.last_of j)
-        × ((j k : ℕ) → R.size j k ≡ S.size_of j k) },
+    ghost planned: { (R.jobs ≡ S.run.jobs) × ((j : ℕ) → R.last j ≡ S.run.last j)
+        × ((j k : ℕ) → R.size j k ≡ S.run.size j k) },
     ghost splits: { 0 < threshold },
     ghost stopping: { stop_id_of stops ≡ R.stops },
     ghost counted: { count_of stops ≡ (segments_of stops).count },
@@ -64,14 +64,14 @@ impl<'a, S: JobSegments, R: RunBrand> JobWork<'a, S, TablePart<S>, TableKept<S>,
         ),
         NoMemory,
     >
-        requires count { length opened.starts.items ≡ S.job_count }
+        requires count { length opened.starts.items ≡ S.run.jobs }
         requires started { (j : ℕ) → (R.start j ≡ node_at opened.starts.items (R.jobs - 1 - j))
             × (R.keeps j ≡ kept_at opened.starts.items (R.jobs - 1 - j)) }
         requires table { table_id_of opened.counts ≡ R.table }
         requires stops { stop_id_of opened.stops ≡ R.stops }
-        requires planned { (R.jobs ≡ S.job_count) × ((j : ℕ) → R.last j ≡ S.last_of j)
-            × ((j k : ℕ) → R.size j k ≡ S.size_of j k) }
-        ensures tasks { IfOk result (λ made. length made.1.items ≤ S.job_count) }
+        requires planned { (R.jobs ≡ S.run.jobs) × ((j : ℕ) → R.last j ≡ S.run.last j)
+            × ((j k : ℕ) → R.size j k ≡ S.run.size j k) }
+        ensures tasks { IfOk result (λ made. length made.1.items ≤ S.run.jobs) }
         ensures idles { IfOk result (λ made. length made.2.items ≡ workers_of settings) }
     {
         let places = empty_places(alloc, jobs)?;
@@ -121,7 +121,7 @@ impl<'a, S: JobSegments, R: RunBrand> JobWork<'a, S, TablePart<S>, TableKept<S>,
 
     /// The answer of a job, if a task left it.
     pub fn found(&self, job: usize) -> Option<&S::Answer>
-        ensures { IfSome result (λ answer. S.is_answer job answer.now) }
+        ensures { IfSome result (λ answer. S.run.is_answer job answer.now) }
     {
         kept_answer(&self.places, job)
     }

@@ -1,5 +1,5 @@
 -- A piece that ends in a fault: what the whole segment gives, and what the job answers.
-use Rattle.std.proofs.Common.{◌≡◌, ◌≢◌, ℕ, ◌+◌, ◌-◌, ◌<◌, ◌≤◌, ◌==◌, Bool, true, false, List, length, drop, Option, Some, None, IfSome, if◌then◌else◌, ap, sym, subst, refl, ◌∙◌, le_refl, arith}
+use Rattle.std.proofs.Common.{◌≡◌, ◌≢◌, ℕ, ◌+◌, ◌-◌, ◌≤◌, ◌==◌, Bool, true, false, List, length, drop, Option, Some, None, IfSome, if◌then◌else◌, ap, sym, subst, refl, ◌∙◌, arith}
 use Rattle.std.proofs.lemmas.List.{length-drop, length-take}
 use Rattle.lambda_values.specs.Earlier.{Numbers}
 use Rattle.trace.specs.declared.item.Fault.{Fault}
@@ -11,23 +11,23 @@ use Rattle.trace.proofs.JoinLemmas.{append_faulted, append_nothing, pipe_append}
 use Rattle.early_stop.specs.Decisive.{Decides}
 use Rattle.early_stop.specs.Leaving.{IsEnough}
 use Rattle.early_stop.proofs.Leaving.{enough_gives, enough_joined, enough_walked}
-use Rattle.early_stop.proofs.Settling.{later_decides}
 use Rattle.job_meaning.specs.declared.answer.Answer.{Answer}
 use Rattle.job_meaning.specs.declared.answer.Answer.TheVariants as answer
 use Rattle.job_plan.specs.declared.outcome.Outcome.TheVariants as outcome
 use Rattle.job_plan.specs.declared.fold_part.FoldPart.{FoldPart}
 use Rattle.job_plan.specs.declared.part.Part.{Part}
 use Rattle.job_plan.specs.declared.part.Part.TheVariants as part
-use Rattle.job_plan.specs.Parts.{EndsFor, is_fault, end_fault, fold_fault}
+use Rattle.job_plan.specs.Parts.{EndsFor, end_fault, fold_fault}
 use Rattle.job_plan.specs.Plans.{AbstractEnd, folding, finding, collecting, exactly, scanning, AbstractPlan, AbstractSegment, ended, folded, given_answer, last_stage, leg_at, legs_answer, walk_of}
 use Rattle.prefix_walks.specs.Pieces.{piece_of}
 use Rattle.job_plan.specs.PlannedAnswers.{first_unusable_at}
 use Rattle.prefix_walks.specs.Batches.{counted_as}
 use Rattle.job_meaning.specs.Walks.{instead_of_fault, unless_fault}
 use Rattle.prefix_walks.proofs.ScanLemmas.{pieces_joined, whole_piece}
-use Rattle.job_table.specs.Caught.{FaultAmong, IsCaught}
+use Rattle.job_runner.specs.Cuts.{HasFault}
+use Rattle.job_table.specs.Runs.{IsCaught, run_of}
 use Rattle.job_table.specs.PlanSegments.{AbstractChain, PartStands, answer_of, answers_before, chain_at, gives_at, piece_between, plan_at, size_at, last_leg, walk_at}
-use Rattle.job_table.proofs.PlanParts.{answer_there, part_decides, size_within}
+use Rattle.job_table.proofs.PlanParts.{answer_there, size_within}
 use Rattle.job_table.proofs.PlannedAnswers.{legs_there, walked_answer}
 
 -- the fold that ended in a fault
@@ -41,15 +41,6 @@ fold_of (part.Find p) f h = absurd (let z : None ≡ Some f = h in cc)
 fold_of (part.Array p) f h = absurd (let z : None ≡ Some f = h in cc)
 fold_of (part.Prefix p) f h = absurd (let z : None ≡ Some f = h in cc)
 fold_of (part.Exact p) f h = absurd (let z : None ≡ Some f = h in cc)
-
--- after positions with this fault nothing matters
-pub fault_decides : (plans : List AbstractPlan) (job segment from to : ℕ) (f : Fault) → to < size_at (chain_at plans job) segment → FaultAmong plans job segment from to f → Decides (gives_at (chain_at plans job) segment) (walk_at (chain_at plans job) segment) to
-fault_decides plans job segment from to f low h =
-    let chain = chain_at plans job in
-    let high = h.high in
-    let fold = fold_of h.piece f h.caught.fault in
-    later_decides (gives_at chain segment) (walk_at chain segment) h.ends to high
-    (part_decides chain segment h.begins h.ends (part.Fold fold.0) h.ordered (omega arith) (ap is_fault fold.2) (λ first. absurd (let z : false ≡ true = first in cc)) (subst (PartStands chain segment h.begins h.ends) fold.1 h.stands))
 
 -- ---- a fold of a walk that ends in a fault
 
@@ -123,52 +114,38 @@ segment_faults chain segment from to p f h within (t, enough, is) faulted =
     )
 
 -- and the job answers what it gives in its place
-pub caught_answer : (plans : List AbstractPlan) (job segment to : ℕ) (f : Fault) (a : Answer) → (plan_at plans job).fallback ≡ Some a → FaultAmong plans job segment 0 to f → a ≡ answer_of plans job
-caught_answer plans job segment to f a gives h =
+pub caught_answer : (plans : List AbstractPlan) (job segment : ℕ) (f : Fault) (a : Answer) → (plan_at plans job).fallback ≡ Some a → HasFault (run_of plans) job segment f → a ≡ answer_of plans job
+caught_answer plans job segment f a gives h =
     let chain = chain_at plans job in
-    let fold = fold_of h.piece f h.caught.fault in
-    let faults = segment_faults chain segment h.begins h.ends fold.0 f h.ordered h.within (subst (PartStands chain segment h.begins h.ends) fold.1 h.stands) fold.2 in
+    let fold = fold_of h.part f h.caught.fault in
+    let faults = segment_faults chain segment h.from h.to fold.0 f h.piece.ordered h.piece.within (subst (PartStands chain segment h.from h.to) fold.1 h.stands) fold.2 in
     let answers : legs_answer chain.legs chain.numbers chain.source ≡ answer.Fault faults.0 =
     answer_there chain.numbers chain.legs chain.source
     ∙ ap (λ (k : ℕ). given_answer (gives_at chain k (walk_at chain k))) (sym h.caught.last)
     ∙ ap given_answer faults.1 in
     ap (λ (x : Answer). instead_of_fault (Some a) x) (sym answers)
     ∙ ap (λ (o : Option Answer). instead_of_fault o (legs_answer chain.legs chain.numbers chain.source)) (sym gives)
-    ∙ walked_answer plans job h.known h.usable
+    ∙ walked_answer plans job h.piece.known h.caught.usable
 
-pub nothing_caught : (plans : List AbstractPlan) (job segment to : ℕ) (f : Fault) → (plan_at plans job).fallback ≡ None → FaultAmong plans job segment 0 to f → ⊥
-nothing_caught plans job segment to f none h = let z : None ≡ Some h.caught.instead = sym none ∙ h.caught.gives in cc
+pub nothing_caught : (plans : List AbstractPlan) (job segment : ℕ) (f : Fault) → (plan_at plans job).fallback ≡ None → HasFault (run_of plans) job segment f → ⊥
+nothing_caught plans job segment f none h = let z : None ≡ Some h.caught.instead = sym none ∙ h.caught.gives in cc
 
 pub some_of : {A : Type 0} (o : Option A) → (o ≡ None → ⊥) → (a : A) × (o ≡ Some a)
 some_of None h = absurd (h refl)
 some_of (Some a) h = (a, refl)
 
--- the fault of a piece of a job that catches it
-pub piece_fault : (plans : List AbstractPlan) (job segment from to : ℕ) (p : AbstractPlan) (q : Part) (r : Option Fault) → job < length plans → first_unusable_at (answers_before plans job) (plan_at plans job).named ≡ None → p ≡ plan_at plans job
-    → p.fallback ≢ None → segment ≡ last_leg p.legs → from ≤ to → to ≤ size_at (chain_at plans job) segment → PartStands (chain_at plans job) segment from to q
-    → r ≡ fold_fault q → IfSome r (λ f. FaultAmong plans job segment from to f)
-piece_fault plans job segment from to p q None low usable same caught last ordered within stands h = tt
-piece_fault plans job segment from to p q (Some f) low usable same caught last ordered within stands h =
-    let chain = chain_at plans job in
-    let legs = legs_there plans job p same in
+-- the fault of a part of a job that catches it
+pub caught_there : (plans : List AbstractPlan) (job segment : ℕ) (p : AbstractPlan) (q : Part) (r : Option Fault) → first_unusable_at (answers_before plans job) (plan_at plans job).named ≡ None → p ≡ plan_at plans job
+    → p.fallback ≢ None → segment ≡ last_leg p.legs → r ≡ fold_fault q → IfSome r (λ f. IsCaught plans job segment q f)
+caught_there plans job segment p q None usable same caught last h = tt
+caught_there plans job segment p q (Some f) usable same caught last h =
     let b = some_of p.fallback caught in
     record {
-      known = low;
       usable = usable;
-      begins = from;
-      ends = to;
-      low = le_refl from;
-      ordered = ordered;
-      high = le_refl to;
-      within = within;
-      piece = q;
-      stands = stands;
-      caught = record {
-        instead = b.0;
-        gives = ap (λ (x : AbstractPlan). x.fallback) (sym same) ∙ b.1;
-        last = last ∙ ap last_leg (sym legs);
-        fault = sym h;
-      };
+      instead = b.0;
+      gives = ap (λ (x : AbstractPlan). x.fallback) (sym same) ∙ b.1;
+      last = last ∙ ap last_leg (sym (legs_there plans job p same));
+      fault = sym h;
     }
 
 -- a job with a fault that it catches gives an answer in its place, and so on

@@ -48,6 +48,9 @@ pub plans_length : (js : List JobPlan) → length (plans_in js) ≡ length js
 plans_length [] = refl
 plans_length (j ∷ js) = ap suc (plans_length js)
 
+pub job_within : (js ks : List JobPlan) (job : ℕ) → js ≡ ks → job < length (plans_in ks) → job < length js
+job_within js ks job same low = let l = plans_length ks in let e = ap length same in omega arith
+
 pub plan_got : (js : List JobPlan) (k : ℕ) (j : JobPlan) → k < length js → j ≡ get_or js k j → plan_in j ≡ plan_at (plans_in js) k
 plan_got [] k j h e = absurd (omega arith)
 plan_got (i ∷ js) zero j h e = ap plan_in e

@@ -1,5 +1,5 @@
 -- The answers of the jobs of a plan, one by one and all together.
-use Rattle.std.proofs.Common.{◌≡◌, ℕ, zero, suc, pos, ◌+◌, ◌<◌, List, [], ◌∷◌, ◌++◌, length, take, Option, Some, None, Result, Ok, Err, IfOk, slice_get, ap, sym, ◌∙◌, refl, append_assoc, arith, get_or, drop, subst}
+use Rattle.std.proofs.Common.{◌≡◌, ℕ, zero, suc, pos, ◌+◌, ◌<◌, List, [], ◌∷◌, ◌++◌, length, take, Option, Some, None, Result, Ok, Err, IfOk, slice_get, ap, sym, ◌∙◌, refl, append_assoc, arith, get_or, drop}
 use Rattle.std.specs.Prelude.{slice_index_or}
 use Rattle.std.proofs.lemmas.List.{append-nil, drop_more}
 use Rattle.job_meaning.specs.declared.answer.Answer.{Answer}
@@ -9,21 +9,14 @@ use Rattle.job_meaning.specs.FileAnswers.{unless_unusable}
 use Rattle.job_plan.specs.Parts.{plans_in}
 use Rattle.job_plan.specs.PlannedAnswers.{first_unusable_at, planned_after, planned_from, planned_meaning, put_into, all_put_at, put_at}
 use Rattle.job_plan.specs.Plans.{AbstractPlan, planned_answer, legs_answer}
-use Rattle.job_runner.specs.Answers.{AreAnswers, IsBegun}
+use Rattle.job_runner.specs.Answers.{AreAnswers}
 use Rattle.job_table.specs.PlanSegments.{answer_of, answers_before, chain_at, plan_at, AbstractChain, PartStands, given_at, last_leg, size_at}
-use Rattle.job_table.proofs.PlanParts.{plans_length}
 use Rattle.lambda_values.specs.Earlier.{Numbers}
 use Rattle.job_language.specs.declared.job.PlainSource.{PlainSource}
 use Rattle.job_language.specs.Jobs.{AbstractPlainSource, source_of, sources_of}
-use Rattle.trace.specs.Trace.{Trace}
 use Rattle.job_plan.specs.declared.part.Part.{Part}
 use Rattle.job_plan.specs.declared.plan.Named.{Named}
 use Rattle.job_meaning.specs.Walks.{instead_of_fault, source_walk}
-use Rattle.job_table.specs.declared.kept.SegmentSource.{SegmentSource}
-use Rattle.job_table.specs.declared.kept.SegmentSource.TheVariants.{Own, Kept}
-use Rattle.job_runner.specs.declared.segments.Begun.{Begun}
-use Rattle.job_runner.specs.declared.segments.Begun.TheVariants.{Known}
-use Rattle.job_table.specs.Sources.{IsKept}
 
 -- ---- one job
 
@@ -86,9 +79,9 @@ answers_planned items ps (Ok v) l h =
     all_planned (answer_of ps) 0 (answer.Number (pos 0)) (items v) (planned_meaning ps) (l ∙ sym (planned_length [] ps)) (λ j. ap (answer_of ps) (let e : j ≡ 0 + j = omega arith in e)) h
 answers_planned items ps (Err e) l h = tt
 
-pub planned_jobs : {X F : Type 0} (items : X → List Answer) (js ks : List JobPlan) → js ≡ ks → (r : Result X F) → IfOk r (λ v. length (items v) ≡ length ks)
+pub planned_jobs : {X F : Type 0} (items : X → List Answer) (js ks : List JobPlan) → js ≡ ks → (r : Result X F) → IfOk r (λ v. length (items v) ≡ length (plans_in ks))
     → IfOk r (λ v. AreAnswers (λ j a. a ≡ answer_of (plans_in ks) j) 0 (items v)) → IfOk r (λ v. items v ≡ planned_meaning (plans_in js))
-planned_jobs {X} {F} items js ks same (Ok v) l h = answers_planned {F = F} items (plans_in ks) (Ok v) (l ∙ sym (plans_length ks)) h ∙ sym (ap (λ xs. planned_meaning (plans_in xs)) same)
+planned_jobs {X} {F} items js ks same (Ok v) l h = answers_planned {F = F} items (plans_in ks) (Ok v) l h ∙ sym (ap (λ xs. planned_meaning (plans_in xs)) same)
 planned_jobs items js ks same (Err e) l h = tt
 
 -- ---- what the first leg of a job goes over, and the answer of its last one
@@ -137,18 +130,7 @@ put_more before named xs i x put old new all low at is pushed so_far =
 
 -- ---- a job that can't be run
 
-module _ (plans : List AbstractPlan) (job : ℕ) (p : AbstractPlan) (same : p ≡ plan_at plans job) where
-  -- its answer, if it can't be run
-  pub known_of : (a : Answer) → job < length plans → ((place : ℕ) × (first_unusable_at (answers_before plans job) p.named ≡ Some place) × (a ≡ answer.Unusable place)) → a ≡ answer_of plans job
-  known_of a low known =
-      known.2 ∙ unusable_answer plans job known.0 low (ap (λ (q : AbstractPlan). first_unusable_at (answers_before plans job) q.named) (sym same) ∙ known.1)
-
--- what a later leg goes over
-pub kept_walk : (chain : AbstractChain) (segment : ℕ) (source : SegmentSource) (w : Trace) → source ≡ Kept w → IsKept chain segment source → (0 < segment) × (w ≡ given_at chain segment)
-kept_walk chain segment source w is kept = subst (IsKept chain segment) is kept
-
-pub own_first : (chain : AbstractChain) (segment : ℕ) (source : SegmentSource) → source ≡ Own → IsKept chain segment source → segment ≡ 0
-own_first chain segment source is kept = subst (IsKept chain segment) is kept
-
-pub begun_known : {G A : Type 0} (given : G → Type 0) (known : A → Type 0) (begun : Begun G A) (a : A) → begun ≡ Known a → IsBegun given known begun → known a
-begun_known given known begun a is h = subst (IsBegun given known) is h
+-- its answer, if it can't be run
+pub known_of : (plans : List AbstractPlan) (job : ℕ) (p : AbstractPlan) → p ≡ plan_at plans job → (place : ℕ) → job < length plans → first_unusable_at (answers_before plans job) p.named ≡ Some place
+    → answer.Unusable place ≡ answer_of plans job
+known_of plans job p same place low unusable = unusable_answer plans job place low (ap (λ (q : AbstractPlan). first_unusable_at (answers_before plans job) q.named) (sym same) ∙ unusable)

@@ -14,7 +14,7 @@ use Rattle.job_plan.specs.contracts.plan.JobPlan as jobs
 use Rattle.job_plan.specs.contracts.plan.Plan as plans
 use Rattle.prefix_walks.specs.contracts.folded_piece.FoldedPiece as pieces
 use Rattle.job_plan.specs.contracts.part.Part as parts
-use Rattle.job_table.specs.contracts.kept.SegmentSource as segment_sources
+use Rattle.prefix_walks.specs.contracts.given.GivenWalk as given_walks
 use Rattle.job_table.specs.contracts.planned.PlanJobs as plan_jobs
 
 -- expressions, as a field and as an element
@@ -64,8 +64,8 @@ piece_sync a = search (sendable, crosses, stage_sync) depth 60 fits 20000
 pub part_send : (a : NamedLft) → IsSend (parts.the_row a)
 part_send a = search (sendable, crosses, truth_field, piece_send) depth 60 fits 20000
 
-pub source_send : (a : NamedLft) → IsSend (segment_sources.the_row a)
+pub source_send : (a : NamedLft) → IsSend (given_walks.the_row a)
 source_send a = search (sendable, crosses, truth_field, piece_send) depth 60 fits 20000
 
-pub source_sync : (a : NamedLft) → IsSync (segment_sources.the_row a)
+pub source_sync : (a : NamedLft) → IsSync (given_walks.the_row a)
 source_sync a = search (sendable, crosses, truth_field, piece_sync) depth 60 fits 20000

@@ -1,5 +1,3 @@
 -- Condition: the files of this crate's definitions; the first line of each says what it is. Begin with PlanSegments.
 pub mod PlanSegments
-pub mod PlanLaws
-pub mod Caught
-pub mod Sources
+pub mod Runs

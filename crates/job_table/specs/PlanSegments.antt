@@ -1,5 +1,5 @@
 -- Condition: the legs of a plan: what each goes over, and what its parts describe.
-use Rattle.std.specs.Prelude.{ℕ, zero, suc, pos, ◌-◌, ◌^◌, min, take, Bool, true, false, List, [], ◌∷◌, length, Option, Some, None, slice_index_or, if◌then◌else◌, ◌==◌}
+use Rattle.std.specs.Prelude.{ℕ, zero, suc, pos, ◌-◌, ◌^◌, min, take, List, [], ◌∷◌, length, Option, Some, None, slice_index_or, if◌then◌else◌, ◌==◌}
 use Rattle.lambda_values.specs.Earlier.{Numbers}
 use Rattle.trace.specs.Trace.{Trace}
 use Rattle.job_meaning.specs.declared.answer.Answer.{Answer}
@@ -7,7 +7,6 @@ use Rattle.job_meaning.specs.declared.answer.Answer.TheVariants as answer
 use Rattle.job_plan.specs.declared.outcome.Outcome.{Outcome}
 use Rattle.job_plan.specs.declared.part.Part.{Part}
 use Rattle.early_stop.specs.Decisive.{Decides}
-use Rattle.job_plan.specs.Links.{is_linked}
 use Rattle.job_plan.specs.Parts.{StandsEnough}
 use Rattle.job_plan.specs.PlannedAnswers.{numbers_at, planned_meaning, put_into}
 use Rattle.job_plan.specs.Plans.{AbstractLeg, AbstractLegs, AbstractLink, AbstractPlan, collecting, given_walk, leg_at, leg_outcome, leg_walk, linked, outcome_of}
@@ -100,7 +99,3 @@ gives_at chain k = outcome_of (leg_at k chain.legs).last chain.numbers
 abbrev pub PartStands : AbstractChain → ℕ → ℕ → ℕ → Part → Type 0
 PartStands chain k from to part =
     StandsEnough (Decides (gives_at chain k) (walk_at chain k)) (leg_at k chain.legs).last chain.numbers part from (piece_between (size_at chain k) from to (walk_at chain k))
-
--- whether a leg is walked in pieces
-abbrev pub leg_divides : AbstractLeg → Bool
-leg_divides l = if is_linked l.links then false else true

@@ -11,7 +11,6 @@
 //! Not promised: what `job_runner` doesn't promise: that the call returns, that there is memory, or speed.
 #![tactic(auto)]
 
-mod kept;
 mod plan_names;
 mod plan_parts;
 mod plan_segments;

@@ -1,5 +1,6 @@
 //! The answers of earlier jobs that the jobs of a plan take.
-ghost use Rattle.std.specs.Prelude.{◌≡◌, ◌<◌, ◌++◌, ℕ, true, length, map, slice_get, Some, None, IfOk, if◌then◌else◌};
+ghost use Rattle.std.specs.Prelude.{◌≡◌, ◌<◌, ◌++◌, ℕ, true, length, map, slice_get, Some, None, IfErr, IfOk};
+ghost use Rattle.std.specs.Prelude.{if◌then◌else◌};
 ghost use Rattle.std.specs.Option.{option_map};
 ghost use Rattle.job_language.specs.Jobs.{source_of, sources_of, values};
 ghost use Rattle.job_meaning.specs.Walks.{array_of};
@@ -7,8 +8,6 @@ ghost use Rattle.job_plan.specs.Parts.{plan_in, plans_in};
 ghost use Rattle.job_plan.specs.PlannedAnswers.{all_put_at, array_at, first_unusable_at, number_there, numbers_at};
 ghost use Rattle.job_plan.specs.PlannedAnswers.{place_in, put_at, unusable_there};
 ghost use Rattle.job_meaning.specs.declared.answer.Answer.{Answer as answers};
-ghost use Rattle.job_meaning.specs.declared.answer.Answer.TheVariants as answer;
-ghost use Rattle.job_runner.specs.Answers.{IsBegun};
 ghost use Rattle.job_table.specs.PlanSegments.{answer_of, answers_before, chain_at, plan_at, size_at};
 
 use crate::plan_parts::positions;
@@ -16,7 +15,7 @@ use crate::planned::{PlanBrand, PlanJobs};
 use job_language::PlainSource;
 use job_meaning::Answer;
 use job_plan::{JobPlan, Named, Source};
-use job_runner::{Begun, EarlierAnswers, NoMemory};
+use job_runner::{EarlierAnswers, NoMemory};
 use lambda_values::Env;
 use std::alloc::Global;
 use stream_tokens::Bytes;
@@ -83,7 +82,7 @@ impl<'a, 'c, P: PlanBrand> PlanJobs<'a, 'c, P> {
         named: usize,
         earlier: &'e E,
     ) -> Result<Option<&'e Answer>, NoMemory>
-        requires job { job < length P.jobs }
+        requires job { job < length (plans_in P.jobs) }
         requires earlier { (j : ℕ) (a : answers) → E.is_answer j a → a ≡ answer_of (plans_in P.jobs) j }
         ensures { IfOk result (λ found. option_map (λ a. a.now) found
             ≡ slice_get (answers_before (plans_in P.jobs) job) named) }
@@ -106,7 +105,7 @@ impl<'a, 'c, P: PlanBrand> PlanJobs<'a, 'c, P> {
         earlier: &E,
         numbers: &mut Env,
     ) -> Result<bool, NoMemory>
-        requires job { job < length P.jobs }
+        requires job { job < length (plans_in P.jobs) }
         requires earlier { (j : ℕ) (a : answers) → E.is_answer j a → a ≡ answer_of (plans_in P.jobs) j }
         ensures usable { IfOk result
             (λ usable. unusable_there name.now.job (slice_get (answers_before (plans_in P.jobs) job) name.now.job)
@@ -124,30 +123,30 @@ impl<'a, 'c, P: PlanBrand> PlanJobs<'a, 'c, P> {
         Ok(true)
     }
 
-    /// The numbers that a job takes of the jobs that it names. Its answer, if it can't be run because of the first of
-    /// them, in order of writing, whose answer can't be used.
+    /// The numbers that a job takes of the jobs that it names, or the first of these jobs, in order of writing, whose
+    /// answer can't be used.
     pub(crate) fn numbers<E: EarlierAnswers<Answer>>(
         &self,
         alloc: Global,
         job: usize,
         named: &[Named],
         earlier: &E,
-    ) -> Result<Begun<Env, Answer>, NoMemory>
-        requires job { job < length P.jobs }
+    ) -> Result<Result<Env, usize>, NoMemory>
+        requires job { job < length (plans_in P.jobs) }
         requires earlier { (j : ℕ) (a : answers) → E.is_answer j a → a ≡ answer_of (plans_in P.jobs) j }
-        ensures { IfOk result (λ begun. IsBegun
-            (λ env. (first_unusable_at (answers_before (plans_in P.jobs) job) named.now ≡ None)
-            × (env ≡ numbers_at (answers_before (plans_in P.jobs) job) named.now))
-            (λ a. (place : ℕ) × (first_unusable_at (answers_before (plans_in P.jobs) job) named.now ≡ Some place)
-            × (a ≡ answer.Unusable place)) begun) }
+        ensures usable { IfOk result (λ found. IfOk found (λ env.
+            (first_unusable_at (answers_before (plans_in P.jobs) job) named.now ≡ None)
+            × (env ≡ numbers_at (answers_before (plans_in P.jobs) job) named.now))) }
+        ensures unusable { IfOk result (λ found. IfErr found (λ place.
+            first_unusable_at (answers_before (plans_in P.jobs) job) named.now ≡ Some place)) }
     {
         let mut numbers = Env::empty(alloc);
         for name in named {
             if !self.take_number(alloc, job, name, earlier, &mut numbers)? {
-                return Ok(Begun::Known(Answer::Unusable(name.job)));
+                return Ok(Err(name.job));
             }
         }
-        Ok(Begun::Walk(numbers))
+        Ok(Ok(numbers))
     }
 
     /// The array of the job with this name, as a source.
@@ -159,7 +158,7 @@ impl<'a, 'c, P: PlanBrand> PlanJobs<'a, 'c, P> {
         name: &[u8],
         earlier: &'e E,
     ) -> Result<PlainSource<'e>, NoMemory>
-        requires job { job < length P.jobs }
+        requires job { job < length (plans_in P.jobs) }
         requires earlier { (j : ℕ) (a : answers) → E.is_answer j a → a ≡ answer_of (plans_in P.jobs) j }
         ensures { IfOk result (λ array. source_of array
             ≡ values (array_at (answers_before (plans_in P.jobs) job) (place_in plan.now.named.items name.now))) }
@@ -182,7 +181,7 @@ impl<'a, 'c, P: PlanBrand> PlanJobs<'a, 'c, P> {
         source: &'x PlainSource<'c>,
         earlier: &'x E,
     ) -> Result<PlainSource<'x>, NoMemory>
-        requires job { job < length P.jobs }
+        requires job { job < length (plans_in P.jobs) }
         requires earlier { (j : ℕ) (a : answers) → E.is_answer j a → a ≡ answer_of (plans_in P.jobs) j }
         ensures { IfOk result (λ put. source_of put
             ≡ put_at (answers_before (plans_in P.jobs) job) plan.now.named.items (source_of source.now)) }
@@ -210,7 +209,7 @@ impl<'a, 'c, P: PlanBrand> PlanJobs<'a, 'c, P> {
         plan: &'x JobPlan<'c>,
         earlier: &'x E,
     ) -> Result<Vec<PlainSource<'x>>, NoMemory>
-        requires job { job < length P.jobs }
+        requires job { job < length (plans_in P.jobs) }
         requires earlier { (j : ℕ) (a : answers) → E.is_answer j a → a ≡ answer_of (plans_in P.jobs) j }
         ensures { IfOk result (λ sources. sources_of sources.items ≡ all_put_at (answers_before (plans_in P.jobs) job)
             plan.now.named.items (sources_of plan.now.sources.items)) }
@@ -232,7 +231,7 @@ impl<'a, 'c, P: PlanBrand> PlanJobs<'a, 'c, P> {
         plan: &JobPlan<'c>,
         earlier: &E,
     ) -> Result<u64, NoMemory>
-        requires job { job < length P.jobs }
+        requires job { job < length (plans_in P.jobs) }
         requires earlier { (j : ℕ) (a : answers) → E.is_answer j a → a ≡ answer_of (plans_in P.jobs) j }
         requires plan { plan_in plan.now ≡ plan_at (plans_in P.jobs) job }
         ensures { IfOk result (λ size. size ≡ size_at (chain_at (plans_in P.jobs) job) 0) }

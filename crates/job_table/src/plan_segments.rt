@@ -1,17 +1,12 @@
 //! The jobs of a plan as segments of a run. A segment of the run is a leg of the plan.
-ghost use Rattle.std.specs.Prelude.{◌≡◌, ◌<◌, ◌≤◌, ℕ, length, IfOk};
+ghost use Rattle.std.specs.Prelude.{◌≡◌, ◌<◌, ℕ, length, IfNone, IfOk, IfSome};
 ghost use Rattle.job_meaning.specs.declared.answer.Answer.{Answer as answers};
 ghost use Rattle.job_plan.specs.Parts.{plans_in};
-ghost use Rattle.job_plan.specs.Plans.{leg_at};
-ghost use Rattle.job_table.specs.Caught.{FaultAmong, IsCaught, among_more};
-ghost use Rattle.job_runner.specs.Cuts.{IsPiece};
-ghost use Rattle.early_stop.specs.Decisive.{Decides};
-ghost use Rattle.job_table.specs.PlanSegments.{PartStands, answer_of, chain_at, gives_at, leg_divides, last_leg};
-ghost use Rattle.job_table.specs.PlanSegments.{size_at, walk_at};
-ghost use Rattle.job_table.specs.Sources.{IsKept, one_kept, IsTaken, one_taken};
-ghost use Rattle.job_table.specs.PlanLaws.{one_answer};
+ghost use Rattle.job_runner.specs.Cuts.{IsPieceOf, Stands};
+ghost use Rattle.job_runner.specs.Runs.{DecidesIn};
+ghost use Rattle.job_table.specs.PlanSegments.{PartStands, answer_of, chain_at, given_at, last_leg, size_at};
+ghost use Rattle.job_table.specs.Runs.{IsTaken, run_of};
 
-use crate::kept::{SegmentSource, Taken};
 use crate::plan_names::different;
 use crate::plan_parts::{catches, job_answer, next_walk, positions};
 use crate::planned::{PlanBrand, PlanJobs};
@@ -19,53 +14,28 @@ use batch_eval::Registers;
 use early_stop::{Never, Stop};
 use job_meaning::Answer;
 use job_plan::{Outcome, Part, Source, unwalked};
-use job_runner::{Begun, CutPiece, EarlierAnswers, JobSegments, NoMemory, Piece, SegmentInput};
+use job_runner::{
+    Begun, CutPiece, EarlierAnswers, JobSegments, NextSource, NoMemory, Piece, SegmentInput,
+};
+use lambda_values::Env;
+use prefix_walks::GivenWalk;
 use std::alloc::Global;
 use trace::Fault;
 
 impl<'a, 'c, P: PlanBrand> JobSegments for PlanJobs<'a, 'c, P> {
     type Part = Part<'a>;
 
-    type Source = SegmentSource<'a>;
+    type Source = GivenWalk<'a>;
 
     type Answer = Answer;
 
-    type Given = Taken;
+    type Given = Env;
 
     type Scratch = Registers;
 
     type Outcome = Outcome<'a>;
 
-    ghost job_count = { length P.jobs };
-
-    ghost last_of = { λ job. last_leg (chain_at (plans_in P.jobs) job).legs };
-
-    ghost size_of = { λ job segment. size_at (chain_at (plans_in P.jobs) job) segment };
-
-    ghost goes_over = { λ job segment. walk_at (chain_at (plans_in P.jobs) job) segment };
-
-    ghost gives = { λ job segment. gives_at (chain_at (plans_in P.jobs) job) segment };
-
-    ghost stands_for = { λ job segment from to part. PartStands (chain_at (plans_in P.jobs) job) segment from to part };
-
-    ghost faults_with = { λ job segment from to fault. FaultAmong (plans_in P.jobs) job segment from to fault };
-
-    ghost faults_among = { λ job segment from to fault a b low high among. among_more
-        (plans_in P.jobs) job segment from to fault a b low high among };
-
-    ghost is_caught = { λ job segment part fault. IsCaught (plans_in P.jobs) job segment part fault };
-
-    ghost is_source = { λ job segment source. IsKept (chain_at (plans_in P.jobs) job) segment source };
-
-    ghost is_answer = { λ job answer. answer ≡ answer_of (plans_in P.jobs) job };
-
-    ghost is_given = { λ job given. IsTaken (plans_in P.jobs) job given };
-
-    ghost one_source = { λ job segment source. one_kept (chain_at (plans_in P.jobs) job) segment source };
-
-    ghost one_answer = { λ job answer. one_answer answer (answer_of (plans_in P.jobs) job) };
-
-    ghost one_given = { λ job given. one_taken (plans_in P.jobs) job given };
+    ghost run = { run_of (plans_in P.jobs) };
 
     fn jobs(&self) -> usize {
         self.plan.jobs.len()
@@ -75,12 +45,13 @@ impl<'a, 'c, P: PlanBrand> JobSegments for PlanJobs<'a, 'c, P> {
         different(alloc, job, &self.job(job).named)
     }
 
-    fn likely_size(&self, job: usize) -> u64 {
+    fn likely_size(&self, job: usize, segment: usize) -> u64 {
         let plan = self.job(job);
-        if plan.leg(0).streams() {
-            return 1;
+        if plan.leg(segment).streams() {
+            0
+        } else {
+            plan.likely_size
         }
-        plan.likely_size
     }
 
     fn given<E: EarlierAnswers<Answer>>(
@@ -88,14 +59,14 @@ impl<'a, 'c, P: PlanBrand> JobSegments for PlanJobs<'a, 'c, P> {
         alloc: Global,
         job: usize,
         earlier: &E,
-    ) -> Result<Begun<Taken, Answer>, NoMemory> {
+    ) -> Result<Begun<Env, Answer>, NoMemory> {
         let plan = self.job(job);
         match self.numbers(alloc, job, &plan.named, earlier)? {
-            Begun::Walk(numbers) => {
+            Ok(given) => {
                 let size = self.first_size(alloc, job, plan, earlier)?;
-                Ok(Begun::Walk(Taken { numbers, size }))
+                Ok(Begun::Walk { given, size })
             }
-            Begun::Known(answer) => Ok(Begun::Known(answer)),
+            Err(unusable) => Ok(Begun::Known(Answer::Unusable(unusable))),
         }
     }
 
@@ -103,48 +74,19 @@ impl<'a, 'c, P: PlanBrand> JobSegments for PlanJobs<'a, 'c, P> {
         self.job(job).last_leg()
     }
 
-    fn first_source(&self, _job: usize) -> SegmentSource<'a> {
-        SegmentSource::Own
-    }
-
-    fn size(&self, job: usize, segment: usize, source: &SegmentSource<'a>, given: &Taken) -> u64 {
-        match source {
-            SegmentSource::Own => given.size,
-            SegmentSource::Kept(walk) => {
-                positions(self.job(job).leg(segment), Source::of_given(walk))
-            }
-        }
-    }
-
-    fn is_divided(&self, job: usize, segment: usize) -> bool
-        requires job { job < length P.jobs }
-        requires segment { segment ≤ last_leg (chain_at (plans_in P.jobs) job).legs }
-        ensures { result ≡ leg_divides (leg_at segment (chain_at (plans_in P.jobs) job).legs) }
-    {
-        !self.job(job).leg(segment).streams()
-    }
-
     fn scratch(&self, alloc: Global) -> Registers {
         Registers::new(alloc)
     }
 
-    fn left_out(&self, alloc: Global, piece: Piece, given: &Taken) -> Part<'a> {
-        unwalked(
-            alloc,
-            self.job(piece.job).leg(piece.segment),
-            &given.numbers,
-        )
+    fn left_out(&self, alloc: Global, piece: Piece, given: &Env) -> Part<'a> {
+        unwalked(alloc, self.job(piece.job).leg(piece.segment), given)
     }
 
     fn is_settled(&self, piece: Piece, part: &Part<'a>) -> bool {
         part.settles(piece.from)
     }
 
-    fn is_settled_by(&self, _piece: Piece, _fault: Fault) -> bool {
-        true
-    }
-
-    fn fault(&self, piece: Piece, _given: &Taken, part: &Part<'a>) -> Option<Fault> {
+    fn fault(&self, piece: Piece, _given: &Env, part: &Part<'a>) -> Option<Fault> {
         if catches(self.job(piece.job), piece.segment) {
             part.fold_fault()
         } else {
@@ -163,21 +105,19 @@ impl<'a, 'c, P: PlanBrand> JobSegments for PlanJobs<'a, 'c, P> {
         &self,
         alloc: Global,
         piece: Piece,
-        input: SegmentInput<'_, SegmentSource<'a>, Taken, E>,
+        input: SegmentInput<'_, '_, GivenWalk<'a>, Env, E>,
         registers: &mut Registers,
         stop: &mut W,
     ) -> Result<Part<'a>, NoMemory>
         requires stop { (c : ℕ) → W.decides stop.old c
-            → Decides (gives_at (chain_at (plans_in P.jobs) piece.job) piece.segment)
-            (walk_at (chain_at (plans_in P.jobs) piece.job) piece.segment) c }
-        requires piece { IsPiece (length P.jobs) (λ job. last_leg (chain_at (plans_in P.jobs) job).legs)
-            (λ job segment. size_at (chain_at (plans_in P.jobs) job) segment)
-            piece.job piece.segment piece.from piece.to }
-        requires source { IsKept (chain_at (plans_in P.jobs) piece.job) piece.segment input.source.now }
+            → DecidesIn (run_of (plans_in P.jobs)) piece.job piece.segment c }
+        requires piece { IsPieceOf (run_of (plans_in P.jobs)) piece }
+        requires first { IfNone input.source (piece.segment ≡ 0) }
+        requires source { IfSome input.source (λ walk. walk.now
+            ≡ given_at (chain_at (plans_in P.jobs) piece.job) piece.segment) }
         requires given { IsTaken (plans_in P.jobs) piece.job input.given.now }
         requires earlier { (j : ℕ) (a : answers) → E.is_answer j a → a ≡ answer_of (plans_in P.jobs) j }
-        ensures { IfOk result
-            (λ part. PartStands (chain_at (plans_in P.jobs) piece.job) piece.segment piece.from piece.to part) }
+        ensures { IfOk result (λ part. Stands (run_of (plans_in P.jobs)) piece part) }
     {
         self.part(alloc, piece, false, input, registers, stop)
     }
@@ -192,12 +132,15 @@ impl<'a, 'c, P: PlanBrand> JobSegments for PlanJobs<'a, 'c, P> {
     fn next_source(
         &self,
         alloc: Global,
-        _job: usize,
-        _segment: usize,
+        job: usize,
+        segment: usize,
         part: Part<'a>,
-        given: &Taken,
-    ) -> Result<SegmentSource<'a>, NoMemory> {
-        Ok(SegmentSource::Kept(next_walk(alloc, part, &given.numbers)?))
+        given: &Env,
+    ) -> Result<NextSource<GivenWalk<'a>>, NoMemory> {
+        let leg = self.job(job).leg(segment + 1);
+        let source = next_walk(alloc, part, given)?;
+        let size = positions(leg, Source::of_given(&source));
+        Ok(NextSource { source, size })
     }
 
     fn answer<E: EarlierAnswers<Answer>>(
@@ -205,12 +148,15 @@ impl<'a, 'c, P: PlanBrand> JobSegments for PlanJobs<'a, 'c, P> {
         alloc: Global,
         job: usize,
         part: Part<'a>,
-        input: SegmentInput<'_, SegmentSource<'a>, Taken, E>,
+        input: SegmentInput<'_, '_, GivenWalk<'a>, Env, E>,
         registers: &mut Registers,
     ) -> Result<Answer, NoMemory>
-        requires job { job < length P.jobs }
-        requires source { IsKept (chain_at (plans_in P.jobs) job)
-            (last_leg (chain_at (plans_in P.jobs) job).legs) input.source.now }
+        requires job { job < length (plans_in P.jobs) }
+        requires first { IfNone input.source (last_leg (chain_at (plans_in P.jobs) job).legs ≡ 0) }
+        requires source { IfSome input.source (λ walk. walk.now ≡ given_at (chain_at (plans_in P.jobs) job)
+            (last_leg (chain_at (plans_in P.jobs) job).legs)) }
+        requires size { input.size ≡ size_at (chain_at (plans_in P.jobs) job)
+            (last_leg (chain_at (plans_in P.jobs) job).legs) }
         requires given { IsTaken (plans_in P.jobs) job input.given.now }
         requires earlier { (j : ℕ) (a : answers) → E.is_answer j a → a ≡ answer_of (plans_in P.jobs) j }
         requires part { PartStands (chain_at (plans_in P.jobs) job)
@@ -219,20 +165,17 @@ impl<'a, 'c, P: PlanBrand> JobSegments for PlanJobs<'a, 'c, P> {
         ensures { IfOk result (λ answer. answer ≡ answer_of (plans_in P.jobs) job) }
     {
         let plan = self.job(job);
-        let given = input.given;
-        if let Some(answer) = job_answer(alloc, plan, part, &given.numbers)? {
+        if let Some(answer) = job_answer(alloc, plan, part, input.given)? {
             return self.for_later_jobs(alloc, job, answer);
         }
-        let last = plan.last_leg();
-        let size = self.size(job, last, input.source, given);
         let all = Piece {
             job,
-            segment: last,
+            segment: plan.last_leg(),
             from: 0,
-            to: size,
+            to: input.size,
         };
         let again = self.part(alloc, all, true, input, registers, &mut Never)?;
-        match job_answer(alloc, plan, again, &given.numbers)? {
+        match job_answer(alloc, plan, again, input.given)? {
             Some(answer) => Ok(answer),
             None => unreachable!(),
         }

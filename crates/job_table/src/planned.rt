@@ -4,7 +4,7 @@ ghost use Rattle.job_plan.specs.declared.plan.JobPlan.{JobPlan as job_plan};
 ghost use Rattle.job_plan.specs.Parts.{plan_in, plans_in};
 ghost use Rattle.job_plan.specs.PlannedAnswers.{planned_meaning};
 ghost use Rattle.job_table.specs.PlanSegments.{plan_at};
-ghost use Rattle.job_table.specs.PlanLaws.{one_plan};
+ghost use Rattle.job_table.specs.Runs.{one_plan};
 
 use job_meaning::Answer;
 use job_plan::{JobPlan, Plan};
@@ -47,7 +47,7 @@ impl<'a, 'c, P: PlanBrand> PlanJobs<'a, 'c, P> {
 
     /// The job with this number.
     pub(crate) fn job(&self, job: usize) -> &'a JobPlan<'c>
-        requires { job < length P.jobs }
+        requires { job < length (plans_in P.jobs) }
         ensures { plan_in result.now ≡ plan_at (plans_in P.jobs) job }
     {
         &self.plan.jobs[job]
@@ -55,7 +55,7 @@ impl<'a, 'c, P: PlanBrand> PlanJobs<'a, 'c, P> {
 
     /// The job with this number, borrowed for as long as these jobs are.
     pub(crate) fn own(&self, job: usize) -> &JobPlan<'c>
-        requires { job < length P.jobs }
+        requires { job < length (plans_in P.jobs) }
         ensures { plan_in result.now ≡ plan_at (plans_in P.jobs) job }
     {
         self.job(job)

@@ -1,13 +1,12 @@
 //! A piece of a leg of a job of a plan, with the sources of the job or what the leg before gave.
-ghost use Rattle.std.specs.Prelude.{◌≡◌, ◌<◌, ℕ, false, true, length, IfOk};
-ghost use Rattle.early_stop.specs.Decisive.{Decides};
+ghost use Rattle.std.specs.Prelude.{◌≡◌, ℕ, false, true, IfNone, IfOk, IfSome};
 ghost use Rattle.job_meaning.specs.declared.answer.Answer.{Answer as answers};
 ghost use Rattle.job_plan.specs.Parts.{may_search, plans_in};
-ghost use Rattle.job_runner.specs.Cuts.{IsPiece};
-ghost use Rattle.job_table.specs.PlanSegments.{PartStands, answer_of, chain_at, gives_at, last_leg, size_at, walk_at};
-ghost use Rattle.job_table.specs.Sources.{IsKept, IsTaken};
+ghost use Rattle.job_runner.specs.Cuts.{IsPieceOf, Stands};
+ghost use Rattle.job_runner.specs.Runs.{DecidesIn};
+ghost use Rattle.job_table.specs.PlanSegments.{answer_of, chain_at, given_at, size_at};
+ghost use Rattle.job_table.specs.Runs.{IsTaken, run_of};
 
-use crate::kept::{SegmentSource, Taken};
 use crate::plan_parts::walked_piece;
 use crate::planned::{PlanBrand, PlanJobs};
 use batch_eval::Registers;
@@ -15,6 +14,8 @@ use early_stop::Stop;
 use job_meaning::Answer;
 use job_plan::{Part, Source, Walked};
 use job_runner::{EarlierAnswers, NoMemory, Piece, SegmentInput};
+use lambda_values::Env;
+use prefix_walks::GivenWalk;
 use std::alloc::Global;
 
 impl<'a, 'c, P: PlanBrand> PlanJobs<'a, 'c, P> {
@@ -25,42 +26,40 @@ impl<'a, 'c, P: PlanBrand> PlanJobs<'a, 'c, P> {
         alloc: Global,
         piece: Piece,
         in_order: bool,
-        input: SegmentInput<'_, SegmentSource<'a>, Taken, E>,
+        input: SegmentInput<'_, '_, GivenWalk<'a>, Env, E>,
         registers: &mut Registers,
         stop: &mut W,
     ) -> Result<Part<'a>, NoMemory>
         requires stop { (c : ℕ) → W.decides stop.old c
-            → Decides (gives_at (chain_at (plans_in P.jobs) piece.job) piece.segment)
-            (walk_at (chain_at (plans_in P.jobs) piece.job) piece.segment) c }
-        requires piece { IsPiece (length P.jobs) (λ job. last_leg (chain_at (plans_in P.jobs) job).legs)
-            (λ job segment. size_at (chain_at (plans_in P.jobs) job) segment)
-            piece.job piece.segment piece.from piece.to }
+            → DecidesIn (run_of (plans_in P.jobs)) piece.job piece.segment c }
+        requires piece { IsPieceOf (run_of (plans_in P.jobs)) piece }
         requires all { in_order ≡ true → (piece.from ≡ 0)
             × (piece.to ≡ size_at (chain_at (plans_in P.jobs) piece.job) piece.segment) }
-        requires source { IsKept (chain_at (plans_in P.jobs) piece.job) piece.segment input.source.now }
+        requires first { IfNone input.source (piece.segment ≡ 0) }
+        requires source { IfSome input.source (λ walk. walk.now
+            ≡ given_at (chain_at (plans_in P.jobs) piece.job) piece.segment) }
         requires given { IsTaken (plans_in P.jobs) piece.job input.given.now }
         requires earlier { (j : ℕ) (a : answers) → E.is_answer j a → a ≡ answer_of (plans_in P.jobs) j }
-        ensures stands { IfOk result
-            (λ part. PartStands (chain_at (plans_in P.jobs) piece.job) piece.segment piece.from piece.to part) }
+        ensures stands { IfOk result (λ part. Stands (run_of (plans_in P.jobs)) piece part) }
         ensures kind { in_order ≡ true → IfOk result (λ part. may_search part ≡ false) }
     {
         let plan = self.job(piece.job);
-        let env = &input.given.numbers;
+        let env = input.given;
         match input.source {
-            SegmentSource::Own if plan.takes_arrays() => {
+            Some(walk) => {
+                let source = Source::of_given(walk);
+                let walked = Walked { source, env };
+                walked_piece(alloc, plan, piece, in_order, walked, registers, stop)
+            }
+            None if plan.takes_arrays() => {
                 let own = self.own(piece.job);
                 let sources = self.put_sources(alloc, piece.job, own, input.earlier)?;
                 let source = Source::of_put(&sources);
                 let walked = Walked { source, env };
                 walked_piece(alloc, plan, piece, in_order, walked, registers, stop)
             }
-            SegmentSource::Own => {
+            None => {
                 let source = Source::of_sources(&plan.sources);
-                let walked = Walked { source, env };
-                walked_piece(alloc, plan, piece, in_order, walked, registers, stop)
-            }
-            SegmentSource::Kept(walk) => {
-                let source = Source::of_given(walk);
                 let walked = Walked { source, env };
                 walked_piece(alloc, plan, piece, in_order, walked, registers, stop)
             }

@@ -4,17 +4,10 @@ use Rattle.trace.specs.declared.item.Item.{Item}
 use Rattle.trace.specs.declared.item.End.TheVariants as end
 use Rattle.trace.specs.Trace.{Trace, trace}
 use Rattle.early_stop.specs.Decisive.{Decides}
-use Rattle.test_engine.specs.declared.lists.ListSource.{ListSource}
-use Rattle.test_engine.specs.declared.lists.ListSource.TheVariants.{Own, Kept}
 
 -- the numbers from one position up to, not with, another
 abbrev pub slice : List ℤ → ℕ → ℕ → List ℤ
 slice xs from to = take (to - from) (drop from xs)
-
--- the numbers that a segment goes over, if the job has these
-abbrev pub numbers_in : List ℤ → ListSource → List ℤ
-numbers_in xs Own = xs
-numbers_in xs (Kept list) = list.items
 
 -- these numbers as items; places count up from one
 abbrev pub items_from : ℕ → List ℤ → List Item

@@ -1,7 +1,7 @@
 //! A run without a pool: tasks that are driven by hand.
 ghost use Rattle.std.specs.Prelude.{◌≡◌, ◌-◌, ℕ, ℤ, List, [], length, IfErr};
 ghost use Rattle.completer_tree.specs.Trees.{table_id_of};
-ghost use Rattle.job_runner.specs.Starts.{kept_at, node_at};
+ghost use Rattle.job_runner.specs.Tasks.{kept_at, node_at};
 ghost use Rattle.job_runner.specs.Stops.{stop_id_of};
 
 use crate::shown::{columns_of, plan_of};
@@ -82,13 +82,13 @@ where
     S::Answer: Send + Sync,
     S::Given: Send + Sync,
     S::Scratch: Send,
-    requires count { length opened.starts.items ≡ S.job_count }
+    requires count { length opened.starts.items ≡ S.run.jobs }
     requires started { (j : ℕ) → (R.start j ≡ node_at opened.starts.items (R.jobs - 1 - j))
         × (R.keeps j ≡ kept_at opened.starts.items (R.jobs - 1 - j)) }
     requires table { table_id_of opened.counts ≡ R.table }
     requires stops { stop_id_of opened.stops ≡ R.stops }
-    requires planned { (R.jobs ≡ S.job_count) × ((j : ℕ) → R.last j ≡ S.last_of j)
-        × ((j k : ℕ) → R.size j k ≡ S.size_of j k) }
+    requires planned { (R.jobs ≡ S.run.jobs) × ((j : ℕ) → R.last j ≡ S.run.last j)
+        × ((j k : ℕ) → R.size j k ≡ S.run.size j k) }
 {
     let (work, tasks, idles) = TableWork::<S, R>::new(alloc, jobs, settings, opened)?;
     run_here(rt, &work, tasks, idles, drops);

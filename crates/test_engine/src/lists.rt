@@ -1,13 +1,14 @@
 //! Jobs that copy lists of numbers. They stand outside the tests, since definitions name them.
-ghost use Rattle.std.specs.Prelude.{◌≡◌, ◌%◌, ◌<◌, ◌≤◌, ℕ, ℤ, true, List, [], length, map, slice_index_or, IfOk, ⊤};
+ghost use Rattle.std.specs.Prelude.{◌≡◌, ◌<◌, ◌≤◌, ℕ, ℤ, true, List, [], length, map, slice_index_or, IfOk, IfSome, ⊤};
 ghost use Rattle.std.specs.Coded.{Unit-prop};
 ghost use Rattle.job_runner.specs.Cuts.{IsPiece};
-ghost use Rattle.test_engine.specs.Lists.{EndsAtOnce, slice, numbers_in, walk_of, JobLast};
+ghost use Rattle.test_engine.specs.Lists.{EndsAtOnce, JobLast, slice, walk_of};
 ghost use Rattle.test_engine.specs.ListLaws.{one_list};
 
 use early_stop::Stop;
 use job_runner::{
-    Begun, CutPiece, EarlierAnswers, JobSegments, NoMemory, Piece, SegmentInput, run_all,
+    Begun, CutPiece, EarlierAnswers, JobSegments, NextSource, NoMemory, Piece, SegmentInput,
+    run_all,
 };
 use run_settings::Settings;
 use std::alloc::Global;
@@ -30,15 +31,6 @@ impl JobNumbers for Brand {
     ghost jobs = { 0 };
 
     ghost numbers = { λ _. [] };
-}
-
-/// What a segment goes over.
-#[derive(Drop)]
-pub enum ListSource {
-    /// The numbers of the job.
-    Own,
-    /// The numbers that the segment before gave.
-    Kept(Vec<i64>),
 }
 
 /// Jobs, each with a list of numbers. Each segment of a job copies the list; the job with the number k has k % 3 + 1 of
@@ -70,13 +62,13 @@ impl<'a, P: JobNumbers> Lists<'a, P> {
         left > 0
     }
 
-    fn numbers<'b>(&'b self, job: usize, source: &'b ListSource) -> &'b [i64]
-        requires { numbers_in (P.numbers job) source.now ≡ P.numbers job }
+    fn numbers<'b>(&'b self, job: usize, source: Option<&'b Vec<i64>>) -> &'b [i64]
+        requires { IfSome source (λ list. list.now.items ≡ P.numbers job) }
         ensures { result.now ≡ P.numbers job }
     {
         match source {
-            ListSource::Own => self.list(job),
-            ListSource::Kept(list) => list.as_slice(),
+            Some(list) => list.as_slice(),
+            None => self.list(job),
         }
     }
 }
@@ -84,7 +76,7 @@ impl<'a, P: JobNumbers> Lists<'a, P> {
 impl<'a, P: JobNumbers + Sync> JobSegments for Lists<'a, P> {
     type Part = Vec<i64>;
 
-    type Source = ListSource;
+    type Source = Vec<i64>;
 
     type Answer = Vec<i64>;
 
@@ -94,35 +86,21 @@ impl<'a, P: JobNumbers + Sync> JobSegments for Lists<'a, P> {
 
     type Outcome = End;
 
-    ghost job_count = { P.jobs };
-
-    ghost last_of = { λ job. JobLast job };
-
-    ghost size_of = { λ job _. length (P.numbers job) };
-
-    ghost goes_over = { λ job _. walk_of (P.numbers job) };
-
-    ghost gives = { λ _ _ walk. walk.ending };
-
-    ghost stands_for = { λ job _ from to part. part.items ≡ slice (P.numbers job) from to };
-
-    ghost faults_with = { λ job _ _ _ _. EndsAtOnce (P.numbers job) };
-
-    ghost is_caught = { λ _ _ _ _. ⊥ };
-
-    ghost faults_among = { λ _ _ _ _ _ _ _ _ _ ends. ends };
-
-    ghost is_source = { λ job _ source. numbers_in (P.numbers job) source ≡ P.numbers job };
-
-    ghost is_answer = { λ job answer. answer.items ≡ P.numbers job };
-
-    ghost is_given = { λ _ _. ⊤ };
-
-    ghost one_source = { λ job _ source. one_list (numbers_in (P.numbers job) source) (P.numbers job) };
-
-    ghost one_answer = { λ job answer. one_list answer.items (P.numbers job) };
-
-    ghost one_given = { λ _ _. Unit-prop };
+    ghost run = { record {
+      jobs = P.jobs;
+      last = JobLast;
+      size = λ job _. length (P.numbers job);
+      goes_over = λ job _. walk_of (P.numbers job);
+      gives = λ _ _ walk. walk.ending;
+      stands_for = λ job _ from to part. part.items ≡ slice (P.numbers job) from to;
+      is_caught = λ job _ _ _. EndsAtOnce (P.numbers job);
+      is_source = λ job _ source. source.items ≡ P.numbers job;
+      is_answer = λ job answer. answer.items ≡ P.numbers job;
+      is_given = λ _ _. ⊤;
+      one_source = λ job _ source. one_list source.items (P.numbers job);
+      one_answer = λ job answer. one_list answer.items (P.numbers job);
+      one_given = λ _ _. Unit-prop;
+    } };
 
     fn jobs(&self) -> usize {
         self.lists.len()
@@ -136,29 +114,18 @@ impl<'a, P: JobNumbers + Sync> JobSegments for Lists<'a, P> {
         Ok(Vec::new(alloc))
     }
 
-    fn likely_size(&self, job: usize) -> u64 {
+    fn likely_size(&self, job: usize, _segment: usize) -> u64 {
         self.list(job).len() as u64
     }
 
     fn given<E: EarlierAnswers<Vec<i64>>>(
         &self,
         _alloc: Global,
-        _job: usize,
+        job: usize,
         _earlier: &E,
     ) -> Result<Begun<(), Vec<i64>>, NoMemory> {
-        Ok(Begun::Walk(()))
-    }
-
-    fn first_source(&self, _job: usize) -> ListSource {
-        ListSource::Own
-    }
-
-    fn size(&self, job: usize, _segment: usize, source: &ListSource, _given: &()) -> u64 {
-        self.numbers(job, source).len() as u64
-    }
-
-    fn is_divided(&self, _job: usize, _segment: usize) -> bool {
-        true
+        let size = self.list(job).len() as u64;
+        Ok(Begun::Walk { given: (), size })
     }
 
     fn scratch(&self, _alloc: Global) {}
@@ -170,10 +137,6 @@ impl<'a, P: JobNumbers + Sync> JobSegments for Lists<'a, P> {
     }
 
     fn is_settled(&self, _piece: Piece, _part: &Vec<i64>) -> bool {
-        false
-    }
-
-    fn is_settled_by(&self, _piece: Piece, _fault: Fault) -> bool {
         false
     }
 
@@ -190,13 +153,13 @@ impl<'a, P: JobNumbers + Sync> JobSegments for Lists<'a, P> {
         &self,
         alloc: Global,
         piece: Piece,
-        input: SegmentInput<'_, ListSource, (), E>,
+        input: SegmentInput<'_, '_, Vec<i64>, (), E>,
         _scratch: &mut (),
         _stop: &mut W,
     ) -> Result<Vec<i64>, NoMemory>
         requires piece { IsPiece P.jobs (λ job. JobLast job)
             (λ job _. length (P.numbers job)) piece.job piece.segment piece.from piece.to }
-        requires source { numbers_in (P.numbers piece.job) input.source.now ≡ P.numbers piece.job }
+        requires source { IfSome input.source (λ list. list.now.items ≡ P.numbers piece.job) }
         ensures { IfOk result (λ part. part.items ≡ slice (P.numbers piece.job) piece.from piece.to) }
     {
         if self.refuses() {
@@ -227,8 +190,9 @@ impl<'a, P: JobNumbers + Sync> JobSegments for Lists<'a, P> {
         _segment: usize,
         part: Vec<i64>,
         _given: &(),
-    ) -> Result<ListSource, NoMemory> {
-        Ok(ListSource::Kept(part))
+    ) -> Result<NextSource<Vec<i64>>, NoMemory> {
+        let size = part.len() as u64;
+        Ok(NextSource { source: part, size })
     }
 
     #[tactic(auto, using(crate::proofs::Slices::whole_slice))]
@@ -237,7 +201,7 @@ impl<'a, P: JobNumbers + Sync> JobSegments for Lists<'a, P> {
         _alloc: Global,
         job: usize,
         part: Vec<i64>,
-        _input: SegmentInput<'_, ListSource, (), E>,
+        _input: SegmentInput<'_, '_, Vec<i64>, (), E>,
         _scratch: &mut (),
     ) -> Result<Vec<i64>, NoMemory>
         requires part { part.items ≡ slice (P.numbers job) 0 (length (P.numbers job)) }

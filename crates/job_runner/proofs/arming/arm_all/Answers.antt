@@ -1,6 +1,6 @@
 use Rattle.std.proofs.Common.{◌≡◌, ◌+◌, ◌-◌, subst, arith}
 use Rattle.pending_count.specs.Seats.{view_of}
-use Rattle.job_runner.specs.Starts.{HasStarts, all_waiting}
+use Rattle.job_runner.specs.Tasks.{HasStarts, all_waiting}
 use Rattle.job_runner.proofs.arming.arm_all.Goals as goal
 
 pub loop-done-preserved : goal.loop-done-preserved

@@ -1,6 +1,6 @@
 use Rattle.std.proofs.Common.{◌≡◌, ◌-◌, length}
 use Rattle.pending_count.specs.Seats.{view_of, IsSeatOf}
-use Rattle.job_runner.specs.Starts.{HasStarts, all_waiting}
+use Rattle.job_runner.specs.Tasks.{HasStarts, all_waiting}
 use Rattle.job_runner.proofs.arming.arm_all.Given as goal
 
 abbrev pub invariant-loop-done : goal.invariant-loop-done

@@ -3,7 +3,7 @@ use Rattle.completion_core.specs.Graph.{copies}
 use Rattle.completion_core.specs.Legal.{count}
 use Rattle.pending_count.specs.Seats.{view_of}
 use Rattle.job_runner.specs.declared.start.Waiting.{Waiting}
-use Rattle.job_runner.specs.Starts.{HasStarts, all_waiting}
+use Rattle.job_runner.specs.Tasks.{HasStarts, all_waiting}
 use Rattle.job_runner.specs.Waits.{nodes_in}
 use Rattle.job_runner.proofs.ArmLemmas.{drawn_by, can_arm, arm_smaller, armed_starts}
 use Rattle.job_runner.proofs.arming.arm_one.Goals as goal

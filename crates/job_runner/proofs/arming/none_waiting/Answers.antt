@@ -1,6 +1,6 @@
 use Rattle.std.proofs.Common.{ap, arith}
 use Rattle.completion_core.specs.Legal.{count}
-use Rattle.job_runner.specs.Starts.{all_waiting}
+use Rattle.job_runner.specs.Tasks.{all_waiting}
 use Rattle.job_runner.specs.Waits.{nodes_in}
 use Rattle.job_runner.proofs.ArmLemmas.{all_snoc}
 use Rattle.job_runner.proofs.arming.none_waiting.Goals as goal

@@ -1,7 +1,7 @@
 use Rattle.std.proofs.Common.{◌≡◌, ◌-◌, ◌≤◌, ◌∙◌, ap, sym, subst, [], length, arith}
 use Rattle.completion_core.specs.Legal.{count}
 use Rattle.pending_count.specs.Seats.{view_of}
-use Rattle.job_runner.specs.Starts.{node_at}
+use Rattle.job_runner.specs.Tasks.{node_at}
 use Rattle.job_runner.proofs.ArmLemmas.{all_below, starts_known}
 use Rattle.job_runner.proofs.SeatLemmas.{credit_rest, part_unplaced}
 use Rattle.job_runner.proofs.opening.open_all.Goals as goal

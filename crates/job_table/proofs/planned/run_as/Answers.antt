@@ -4,8 +4,9 @@ use Rattle.job_table.proofs.PlannedAnswers.{planned_jobs}
 use denote.Exit.{no}
 use denote.Param.{param}
 use denote.Param.Send.{arg_send, arg_sync, param_send, param_sync}
+use mir.Syntax.{static}
 use Rattle.job_plan.specs.contracts.part.Part as parts
-use Rattle.job_table.specs.contracts.kept.SegmentSource as segment_sources
+use Rattle.prefix_walks.specs.contracts.given.GivenWalk as given_walks
 use Rattle.job_table.specs.contracts.planned.PlanJobs as plan_jobs
 use Rattle.job_table.proofs.SharedPlanLemmas.{jobs_send, jobs_sync, part_send, source_send, source_sync}
 use Rattle.job_table.proofs.planned.run_as.Goals as goal
@@ -27,7 +28,7 @@ pub run_all-requires-send-S-Part : goal.run_all-requires-send-S-Part
 run_all-requires-send-S-Part g c = λ κs within. param_send 3 _ (arg_send _ no (parts.the_row _) (part_send _))
 
 pub run_all-requires-send-S-Source : goal.run_all-requires-send-S-Source
-run_all-requires-send-S-Source g c = λ κs within. param_send 4 _ (arg_send _ no (segment_sources.the_row _) (source_send _))
+run_all-requires-send-S-Source g c = λ κs within. param_send 4 _ (arg_send _ no (given_walks.the_row (record { mir = static; lft = _ })) (source_send _))
 
 pub run_all-requires-sync-S-Source : goal.run_all-requires-sync-S-Source
-run_all-requires-sync-S-Source g c = λ κs within. param_sync 4 _ (arg_sync _ no (segment_sources.the_row _) (source_sync _))
+run_all-requires-sync-S-Source g c = λ κs within. param_sync 4 _ (arg_sync _ no (given_walks.the_row (record { mir = static; lft = _ })) (source_sync _))

@@ -1,16 +1,16 @@
 use Rattle.std.proofs.Common.{◌-◌}
 use Rattle.completer_tree.specs.Trees.{table_id_of}
-use Rattle.job_runner.specs.Starts.{kept_at, node_at}
+use Rattle.job_runner.specs.Tasks.{kept_at, node_at}
 use Rattle.job_runner.specs.Stops.{stop_id_of}
 use Rattle.test_engine.proofs.driven.found.Given as goal
 
 abbrev pub ghosts-answers_found : goal.ghosts-answers_found
 ghosts-answers_found g a = record {
   table = table_id_of a.opened.counts;
-  jobs = g.S.JobSegments.job_count;
-  start = λ j. node_at a.opened.starts.items (g.S.JobSegments.job_count - 1 - j);
-  keeps = λ j. kept_at a.opened.starts.items (g.S.JobSegments.job_count - 1 - j);
-  last = g.S.JobSegments.last_of;
-  size = g.S.JobSegments.size_of;
+  jobs = g.S.JobSegments.run.jobs;
+  start = λ j. node_at a.opened.starts.items (g.S.JobSegments.run.jobs - 1 - j);
+  keeps = λ j. kept_at a.opened.starts.items (g.S.JobSegments.run.jobs - 1 - j);
+  last = g.S.JobSegments.run.last;
+  size = g.S.JobSegments.run.size;
   stops = stop_id_of a.opened.stops;
 }

@@ -1,8 +1,9 @@
 use denote.Exit.{no}
 use denote.Param.{param}
+use mir.Syntax.{static}
 use denote.Param.Send.{arg_send, arg_sync, param_send, param_sync}
 use Rattle.job_plan.specs.contracts.part.Part as parts
-use Rattle.job_table.specs.contracts.kept.SegmentSource as segment_sources
+use Rattle.prefix_walks.specs.contracts.given.GivenWalk as given_walks
 use Rattle.job_table.specs.contracts.planned.PlanJobs as plan_jobs
 use Rattle.job_table.proofs.SharedPlanLemmas.{jobs_send, jobs_sync, part_send, source_send, source_sync}
 use Rattle.test_engine.proofs.driven.plan_found_as.Goals as goal
@@ -21,7 +22,7 @@ pub found-requires-send-S-Part : goal.found-requires-send-S-Part
 found-requires-send-S-Part g c = λ κs within. param_send 2 _ (arg_send _ no (parts.the_row _) (part_send _))
 
 pub found-requires-send-S-Source : goal.found-requires-send-S-Source
-found-requires-send-S-Source g c = λ κs within. param_send 3 _ (arg_send _ no (segment_sources.the_row _) (source_send _))
+found-requires-send-S-Source g c = λ κs within. param_send 3 _ (arg_send _ no (given_walks.the_row (record { mir = static; lft = _ })) (source_send _))
 
 pub found-requires-sync-S-Source : goal.found-requires-sync-S-Source
-found-requires-sync-S-Source g c = λ κs within. param_sync 3 _ (arg_sync _ no (segment_sources.the_row _) (source_sync _))
+found-requires-sync-S-Source g c = λ κs within. param_sync 3 _ (arg_sync _ no (given_walks.the_row (record { mir = static; lft = _ })) (source_sync _))

@@ -4,9 +4,8 @@ use Rattle.job_runner.proofs.cut.JoinContinuationSegmentPart.on_exceptional_comp
 
 pub returns : goal.returns
 returns g c =
-    let S = g.S.JobSegments in
+    let run = g.S.JobSegments.run in
     let j = c.args.self in
     let f = c.in-Fault.field-0 in
     let top : j.parent ≡ None = search rules in
-    let among = leftmost_fault S.stands_for S.faults_with (λ x. x.found) S.faults_among j.cut c.args.failure f c.in-Fault.is j.within c.requires.leftmost in
-    record { goes = caught_goes S.stands_for S.faults_with (λ x. x.found) j.cut j.parent _ refl top (f, among) }
+    record { goes = caught_goes run (λ x. x.found) j.cut j.parent _ refl top (f, leftmost_fault run (λ x. x.found) j.cut c.args.failure f c.in-Fault.is c.requires.leftmost) }

@@ -1,5 +1,5 @@
 use Rattle.std.proofs.Common.{◌≡◌, ◌-◌, ◌<◌, ◌∙◌, ap, sym, length, arith}
-use Rattle.job_runner.specs.Starts.{node_at, kept_at}
+use Rattle.job_runner.specs.Tasks.{node_at, kept_at}
 use Rattle.job_runner.proofs.ArmLemmas.{start_got}
 use Rattle.job_runner.proofs.run_nodes.RunNodes.start.Goals as goal
 

@@ -1,20 +1,17 @@
-use Rattle.std.proofs.Common.{ℕ, length, ◌<◌, ◌≡◌, ◌∙◌, ap, sym, subst, IfOk, Ok, Result, arith}
+use Rattle.std.proofs.Common.{ℕ, ◌≡◌, ◌∙◌, ap, sym, subst, IfOk, Ok, Result}
 use Rattle.job_meaning.specs.declared.answer.Answer.{Answer}
 use Rattle.job_plan.specs.Parts.{plan_in, plans_in}
 use Rattle.job_table.specs.PlanSegments.{PartStands, answer_of, chain_at, last_leg, size_at}
-use Rattle.job_table.proofs.PlanParts.{plans_length}
 use Rattle.job_table.proofs.PlannedAnswers.{answered, legs_there}
 use Rattle.job_table.proofs.plan_segments.PlanJobsJobSegments.answer.Goals as goal
 
 pub returns-in-Some : goal.returns-in-Some
 returns-in-Some g c =
-    let js = g.P.PlanBrand.jobs in
-    let l = plans_length js in
-    let low : c.args.job < length (plans_in js) = omega (arith, c.requires.job, l) in
+    let plans = plans_in g.P.PlanBrand.jobs in
     let taken = c.requires.given in
     let found : Result Answer (Unit {0}) = Ok c.in-Some.answer in
-    let is : c.in-Some.answer ≡ answer_of (plans_in js) c.args.job =
-    answered (plans_in js) c.args.job (plan_in c.job-plan.result.now) c.job-plan.ensures c.args.input.given.now.numbers c.args.part found low taken.0 taken.1.0 c.requires.part
+    let is : c.in-Some.answer ≡ answer_of plans c.args.job =
+    answered plans c.args.job (plan_in c.job-plan.result.now) c.job-plan.ensures c.args.input.given.now c.args.part found c.requires.job taken.0 taken.1 c.requires.part
     (rw c.in-Some.is at c.in_ok-answer.ensures.some) in
     subst (λ (a : Answer). IfOk c.for_later_jobs.result (λ (kept : Answer). kept ≡ a)) is c.for_later_jobs.ensures
 
@@ -22,15 +19,14 @@ pub returns : goal.returns
 returns g c =
     let plans = plans_in g.P.PlanBrand.jobs in
     let job = c.args.job in
-    let l = plans_length g.P.PlanBrand.jobs in
-    let low : job < length plans = omega (arith, c.requires.job, l) in
     let taken = c.requires.given in
     let chain = chain_at plans job in
     let plan = plan_in c.job-plan.result.now in
     let again = c.in_ok-again.again in
-    let last = c.last_leg-last.result in
-    let here : last ≡ last_leg chain.legs = c.last_leg-last.ensures ∙ ap last_leg (sym (legs_there plans job plan c.job-plan.ensures)) in
-    let stands = subst (λ (n : ℕ). PartStands chain last 0 n again) c.size-size.ensures c.in_ok-again.ensures.stands in
+    let last = c.last_leg.result in
+    let here : last ≡ last_leg chain.legs = c.last_leg.ensures ∙ ap last_leg (sym (legs_there plans job plan c.job-plan.ensures)) in
+    let size : c.args.input.size ≡ size_at chain last = c.requires.size ∙ ap (size_at chain) (sym here) in
+    let stands = subst (λ (n : ℕ). PartStands chain last 0 n again) size c.in_ok-again.ensures.stands in
     let found : Result Answer (Unit {0}) = Ok c.in-Some-2.answer in
-    answered plans job plan c.job-plan.ensures c.args.input.given.now.numbers again found low taken.0 taken.1.0
+    answered plans job plan c.job-plan.ensures c.args.input.given.now again found c.requires.job taken.0 taken.1
     (subst (λ (k : ℕ). PartStands chain k 0 (size_at chain k) again) here stands) (rw c.in-Some-2.is at c.in_ok-answer-2.ensures.some)

@@ -1,7 +1,18 @@
-use Rattle.std.proofs.Common.{sym, arith}
-use Rattle.job_plan.specs.Parts.{plans_in}
-use Rattle.job_table.specs.PlanSegments.{chain_at}
+use Rattle.std.proofs.Common.{◌≡◌, ◌∙◌, ◌+◌, ap, sym}
+use Rattle.job_plan.specs.Parts.{leg_in, plan_in, plans_in, walk_in}
+use Rattle.job_plan.specs.Plans.{leg_at, leg_walk}
+use Rattle.job_table.specs.PlanSegments.{chain_at, given_at, positions_of, walk_size}
+use Rattle.job_table.proofs.PlannedAnswers.{legs_there}
 use Rattle.job_table.proofs.plan_segments.PlanJobsJobSegments.next_source.Goals as goal
 
-pub returns : goal.returns
-returns g c = (omega arith, c.in_ok-next_walk.ensures (chain_at (plans_in g.P.PlanBrand.jobs) c.args._job) c.args._segment (sym c.requires.given.1.0) c.requires.segment c.requires.part)
+pub returns-clause-source : goal.returns-clause-source
+returns-clause-source g c = c.in_ok-source.ensures (chain_at (plans_in g.P.PlanBrand.jobs) c.args.job) c.args.segment (sym c.requires.given.1) c.requires.segment c.requires.part
+
+pub returns-clause-size : goal.returns-clause-size
+returns-clause-size g c =
+    let plans = plans_in g.P.PlanBrand.jobs in
+    let chain = chain_at plans c.args.job in
+    let next = c.args.segment + 1 in
+    let leg : leg_in c.leg-leg.result.now ≡ leg_at next chain.legs = c.leg-leg.ensures ∙ ap (leg_at next) (sym (legs_there plans c.args.job (plan_in c.job.result.now) c.job.ensures)) in
+    let given : walk_in c.of_given.result ≡ given_at chain next = c.of_given.ensures ∙ c.in_ok-source.ensures chain c.args.segment (sym c.requires.given.1) c.requires.segment c.requires.part in
+    c.positions-size.ensures ∙ (λ i. positions_of (leg i).links (walk_size (leg_walk (leg i) (given i))))
