@@ -37,7 +37,7 @@ class Function:
         self.is_public = lines[first].strip().startswith('pub fn')
         self.is_test = first > 0 and lines[first - 1].strip() == '#[test]'
         head = ' '.join(lines[first:max(body, first) + 1])
-        self.takes_self = bool(re.search(r'\(\s*(?:mut |&mut |&)?self\b', head))
+        self.takes_self = bool(re.search(r"\(\s*(?:mut |&(?:'\w+ )?(?:mut )?)?self\b", head))
         # A law says something in its contract, and does nothing.
         self.is_law = lines[last].strip() == '{}'
         self.code = '\n'.join(COMMENT.sub('', line) for line in lines[body + 1:last])

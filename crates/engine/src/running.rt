@@ -6,7 +6,7 @@ ghost use Rattle.engine.specs.Refused.{IsEarly};
 ghost use Rattle.engine.specs.Run.{Faulted, Input, IsReport, Reported, Says, columns_of, report_in};
 ghost use Rattle.job_language.specs.Jobs.{jobs_of, names_of};
 ghost use Rattle.job_meaning.specs.FileAnswers.{meaning_of};
-ghost use Rattle.job_plan.specs.Parts.{plan_names};
+ghost use Rattle.job_plan.specs.Plans.{plan_names};
 ghost use Rattle.run_settings.specs.SettingsParts.{form_of};
 ghost use Rattle.report.specs.Named.{IsNamed, IsText};
 ghost use Rattle.std.specs.Io.KnownBytes.{IsAtEnd, Keeps};

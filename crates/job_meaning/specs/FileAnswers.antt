@@ -12,6 +12,12 @@ pub record NamedAnswer : Type 0 where
   pub name : List ℕ
   pub answer : Answer
 
+-- an earlier job that a job names: its name, its place in the file, counted from 0, and its answer
+pub record EarlierJob : Type 0 where
+  pub name : List ℕ
+  pub place : ℕ
+  pub answer : Answer
+
 -- helper: what was found, one place later
 abbrev pub found_later : Option (ℕ × Answer) → Option (ℕ × Answer)
 found_later None = None
@@ -22,66 +28,62 @@ abbrev pub found : List NamedAnswer → List ℕ → Option (ℕ × Answer)
 found [] name = None
 found (a ∷ more) name = if same_name a.name name then Some (0, a.answer) else found_later (found more name)
 
--- helper: the place of a job, if its answer can't be used
-abbrev pub unless_usable : ℕ → Answer → Option ℕ
-unless_usable place a = if is_usable a then None else Some place
+-- helper: the job with this name, if it was found
+abbrev pub job_found : List ℕ → Option (ℕ × Answer) → List EarlierJob
+job_found name None = []
+job_found name (Some found) = record { name = name; place = found.0; answer = found.1 } ∷ []
 
-abbrev pub unusable_at : Option (ℕ × Answer) → Option ℕ
-unusable_at None = None
-unusable_at (Some found) = unless_usable found.0 found.1
+-- the jobs with these names, in order of writing
+abbrev pub jobs_found : List NamedAnswer → List (List ℕ) → List EarlierJob
+jobs_found before [] = []
+jobs_found before (name ∷ names) = job_found name (found before name) ++ jobs_found before names
 
--- helper: the first of two places, if they are known
-abbrev pub or_else : Option ℕ → Option ℕ → Option ℕ
-or_else None later = later
-or_else (Some place) later = Some place
-
--- the first job among these, in order of writing, whose answer can't be used
-abbrev pub first_unusable : List NamedAnswer → List (List ℕ) → Option ℕ
-first_unusable before [] = None
-first_unusable before (name ∷ names) = or_else (unusable_at (found before name)) (first_unusable before names)
+-- the place of the first of these jobs whose answer can't be used
+abbrev pub first_unusable : List EarlierJob → Option ℕ
+first_unusable [] = None
+first_unusable (j ∷ js) = if is_usable j.answer then first_unusable js else Some j.place
 
 -- helper: a number under a name, if there is one
 abbrev pub numbered : List ℕ → Option ℤ → Numbers
 numbered name None = []
 numbered name (Some z) = record { name = name; number = z } ∷ []
 
-abbrev pub number_found : List ℕ → Option (ℕ × Answer) → Numbers
-number_found name None = []
-number_found name (Some found) = numbered name (number_of found.1)
+-- the numbers of these jobs, under their names
+abbrev pub numbers_of : List EarlierJob → Numbers
+numbers_of [] = []
+numbers_of (j ∷ js) = numbered j.name (number_of j.answer) ++ numbers_of js
 
--- the numbers under the `$` names among these, in order of writing
-abbrev pub numbers_named : List NamedAnswer → List (List ℕ) → Numbers
-numbers_named before [] = []
-numbers_named before (name ∷ names) = number_found name (found before name) ++ numbers_named before names
-
--- helper: the array of the job that was found
-abbrev pub array_found : Option (ℕ × Answer) → List ℤ
-array_found None = []
-array_found (Some found) = array_of found.1
+-- the array of the first of these jobs with this name
+abbrev pub array_named : List EarlierJob → List ℕ → List ℤ
+array_named [] name = []
+array_named (j ∷ js) name = if same_name j.name name then array_of j.answer else array_named js name
 
 -- a source; `result(name)` becomes the array of that job
-abbrev pub put_in : List NamedAnswer → AbstractPlainSource → AbstractPlainSource
-put_in before (range a b) = range a b
-put_in before (range_closed a b) = range_closed a b
-put_in before (values vs) = values vs
-put_in before (result name) = values (array_found (found before name))
+abbrev pub put_in : List EarlierJob → AbstractPlainSource → AbstractPlainSource
+put_in named (range a b) = range a b
+put_in named (range_closed a b) = range_closed a b
+put_in named (values vs) = values vs
+put_in named (result name) = values (array_named named name)
 
 -- several sources
-abbrev pub all_put_in : List NamedAnswer → List AbstractPlainSource → List AbstractPlainSource
-all_put_in before [] = []
-all_put_in before (s ∷ ss) = put_in before s ∷ all_put_in before ss
+abbrev pub all_put_in : List EarlierJob → List AbstractPlainSource → List AbstractPlainSource
+all_put_in named [] = []
+all_put_in named (s ∷ ss) = put_in named s ∷ all_put_in named ss
 
 -- helper: unusable because of the job at this place, or else this answer
 abbrev pub unless_unusable : Option ℕ → Answer → Answer
 unless_unusable None a = a
 unless_unusable (Some place) a = answer.Unusable place
 
--- the answer of a job after the jobs before it: unusable because of the first job that it names whose answer can't be
--- used, or the answer of its walk, with the numbers and arrays of the jobs that it names
+-- the answer of a job that names these jobs: unusable because of the first one whose answer can't be used, or the answer
+-- of its walk, with their numbers and arrays
+abbrev pub answer_with : List EarlierJob → AbstractJob → Answer
+answer_with named job =
+    unless_unusable (first_unusable named) (answer_of_job (numbers_of named) (record job { sources = all_put_in named job.sources }))
+
+-- the answer of a job after the jobs before it
 abbrev pub answer_after : List NamedAnswer → AbstractJob → Answer
-answer_after before job =
-    unless_unusable (first_unusable before (names_in_job job))
-    (answer_of_job (numbers_named before (names_in_job job)) (record { name = job.name; sources = all_put_in before job.sources; stages = job.stages; terminal = job.terminal; on_fault = job.on_fault }))
+answer_after before job = answer_with (jobs_found before (names_in_job job)) job
 
 -- the answers of jobs in file order, after the answers of the jobs before them
 abbrev pub answers_after : List NamedAnswer → List AbstractJob → List Answer

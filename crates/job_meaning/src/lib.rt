@@ -1,8 +1,8 @@
 //! What the jobs of a file mean: the answer of each.
 //!
 //! Stands on `job_language`, for jobs, and on the definitions of `trace`, `reduce_ops`, `slice_ops`, `find_ops` and
-//! `prefix_scan`, for walks. Used by `job_plan`, which cuts jobs into segments, by `report`, which writes answers, and
-//! by `engine`, whose contract cites it.
+//! `prefix_scan`, for walks. Used by `job_routes`, which makes the legs of a job, by `job_plan`, which finds the jobs
+//! that a job names, by `report`, which writes answers, and by `engine`, whose contract cites it.
 //! Begin with `meaning_of` of `specs/FileAnswers.antt`, then `specs/Walks.antt`: the walk of a job, and the answer that
 //! its terminal gives. The code is the answer as a value: `Answer`, and the `Values` of an array in the pieces in which
 //! they were made; and `names_in_job`, the names in a job.

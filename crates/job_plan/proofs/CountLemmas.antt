@@ -1,5 +1,5 @@
 -- Folds that look at no item, or at the first one alone: counts after maps, and those that keep the first value.
-use Rattle.std.proofs.Common.{◌≡◌, ℕ, Bool, suc, ◌+◌, ◌≤◌, ◌-◌, ℤ, pos, ◌+ℤ◌, true, List, [], ◌∷◌, length, drop, Option, Some, None, refl, sym, ap, subst, ◌∙◌, arith, rules, false}
+use Rattle.std.proofs.Common.{◌≡◌, ℕ, Bool, suc, ◌+◌, ◌≤◌, ◌-◌, ℤ, pos, ◌+ℤ◌, true, List, [], ◌∷◌, length, drop, Option, Some, None, refl, sym, ap, subst, ◌∙◌, arith, rules}
 use Rattle.std.proofs.lemmas.Int.{int_wrap_fits}
 use Rattle.std.proofs.lemmas.List.{append-nil, length-drop, length-take}
 use Rattle.std.specs.Int.{w64}
@@ -19,23 +19,18 @@ use Rattle.reduce_ops.specs.Parts.{StandsFor as FoldStands}
 use Rattle.reduce_ops.proofs.FoldLemmas.{counted}
 use Rattle.job_plan.specs.declared.fold_part.FoldPart.{FoldPart}
 use Rattle.job_plan.specs.declared.part.Part.TheVariants as part
-use Rattle.job_plan.specs.declared.ends.Fold.{Fold}
-use Rattle.job_plan.specs.declared.segment.Segment.{Segment}
-use Rattle.job_plan.specs.declared.ends.SegmentEnd.TheVariants as ends
+use Rattle.job_routes.specs.declared.ends.Fold.{Fold}
+use Rattle.job_routes.specs.declared.segment.Segment.{Segment}
+use Rattle.job_routes.specs.declared.ends.SegmentEnd.TheVariants as ends
 use Rattle.prefix_walks.specs.Faultless.{AreFaultless}
-use Rattle.job_plan.specs.Building.{AreMaps, IsClean}
-use Rattle.job_plan.specs.Parts.{EndsFor, IsFold, StandsFor, end_in, segment_in}
-use Rattle.prefix_walks.specs.Pieces.{piece_of}
+use Rattle.job_routes.specs.Building.{AreMaps}
+use Rattle.job_plan.specs.Parts.{EndsFor, IsFold, StandsFor}
+use Rattle.job_routes.specs.Legs.{end_in, segment_in}
+use Rattle.prefix_walks.specs.Pieces.{piece_of, span}
 use Rattle.prefix_walks.specs.Batches.{counted_as}
-use Rattle.prefix_walks.specs.Spans.{span}
 use Rattle.trace.proofs.JoinLemmas.{pipe_ended}
-use Rattle.job_plan.proofs.MapLemmas.{first_mapped}
+use Rattle.job_routes.proofs.MapLemmas.{first_mapped}
 use Rattle.job_plan.proofs.WalkLemmas.{same_ending}
-use Rattle.find_ops.specs.Finds.{find_of}
-use Rattle.find_ops.specs.declared.terminal.FindTerminal.TheVariants as terminal
-use Rattle.job_meaning.specs.declared.answer.Answer.TheVariants as answer
-use Rattle.job_plan.specs.declared.outcome.Outcome.TheVariants as outcome
-use Rattle.job_plan.specs.Plans.{folding, finding, ended}
 
 -- two walks have equally many items, and one end
 abbrev HasSize : Trace → Trace → Type 0
@@ -89,21 +84,3 @@ counted_stands segment fold p from to t count ending env e maps calm few last ma
     let kept = maps_keep n gs maps calm env piece in
     let stands : IsFold fold.op fold.start fold.counts p (pipe n gs env piece) = made (pipe n gs env piece) (kept.0 ∙ piece_size from to t ∙ sym few) (kept.1 ∙ sym (last ∙ same_ending from to t)) in
     subst (λ d. EndsFor (end_in d) (n + length gs) env (part.Fold p) (pipe n gs env piece)) (sym e) stands
-
--- ---- folds that keep the first value, of walks that have no item before a fault
-
-one_value : (a : ℤ) (xs : List Item) → fold_from (value_of op.First) a xs ≡ a
-one_value a [] = refl
-one_value a (x ∷ xs) = one_value a xs
-
-pub first_answer : (n : ℕ) (env : Numbers) (xs : List Item) (e : End) → IsClean (trace xs e) → ended (finding (find_of terminal.First)) n env (trace xs e) ≡ ended (folding op.First None false) n env (trace xs e)
-first_answer n env [] end.Done h = refl
-first_answer n env [] (end.Fault f) h = refl
-first_answer n env (x ∷ xs) end.Done h = ap (λ (v : ℤ). outcome.Answer (answer.Optional (Some v))) (sym (one_value x.value xs))
-first_answer n env (x ∷ xs) (end.Fault f) h = absurd (let z : x ∷ xs ≡ [] = h f refl in cc)
-
--- stages that have no fault leave a walk without an item before a fault
-pub pipe_clean : (m : ℕ) (gs : List AbstractStage) → AreFaultless true gs → (env : Numbers) (t : Trace) → IsClean t → IsClean (pipe m gs env t)
-pipe_clean m gs calm env t clean = λ f e.
-    let none : t.items ≡ [] = clean f (ap (λ (w : Trace). w.ending) (sym ((calm env).0 m env refl t.items t.ending)) ∙ e) in
-    ap (λ (xs : List Item). (pipe m gs env (trace xs t.ending)).items) none ∙ ap (λ (w : Trace). w.items) (pipe_ended m gs env t.ending)

@@ -5,7 +5,7 @@ use Rattle.trace.specs.Trace.{Trace, nothing}
 use Rattle.early_stop.proofs.Leaving.{enough_left}
 use Rattle.job_plan.specs.declared.part.Part.{Part}
 use Rattle.job_plan.specs.Parts.{StandsFor, StandsEnough}
-use Rattle.job_plan.specs.Plans.{AbstractSegment}
+use Rattle.job_routes.specs.Legs.{AbstractSegment}
 use Rattle.job_plan.specs.Stretches.{IsDecided}
 
 module _ (s : AbstractSegment) (env : Numbers) (p : Part) (decides : ℕ → Type 0) (from : ℕ) (piece : Trace) where

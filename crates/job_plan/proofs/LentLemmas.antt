@@ -9,11 +9,12 @@ use Rattle.trace.specs.Stages.{AbstractStage, pipe, stages_of}
 use Rattle.trace.specs.Trace.{Trace, trace, nothing, append}
 use Rattle.job_plan.specs.declared.part.Part.TheVariants as part
 use Rattle.prefix_walks.specs.declared.prefix.Prefix.{Prefix}
-use Rattle.job_plan.specs.declared.segment.Segment.{Segment}
-use Rattle.job_plan.specs.declared.ends.SegmentEnd.TheVariants as ends
+use Rattle.job_routes.specs.declared.segment.Segment.{Segment}
+use Rattle.job_routes.specs.declared.ends.SegmentEnd.TheVariants as ends
 use Rattle.prefix_walks.specs.Faultless.{AreFaultless, left_by}
-use Rattle.job_plan.specs.Parts.{number_after, EndsFor, StandsFor, end_in, segment_in}
-use Rattle.prefix_walks.specs.Pieces.{elements, piece_of}
+use Rattle.job_routes.specs.Legs.{number_after, end_in, segment_in}
+use Rattle.job_plan.specs.Parts.{EndsFor, StandsFor}
+use Rattle.prefix_walks.specs.Pieces.{after, elements, piece_of, span}
 use Rattle.prefix_walks.specs.Scans.{AbstractScan, scan, scan_append}
 use Rattle.trace.specs.Cover.{placed, counted, too_long}
 use Rattle.trace.proofs.JoinLemmas.{append_nothing}
@@ -24,7 +25,6 @@ use Rattle.prefix_walks.proofs.FaultlessLemmas.{left_none}
 use Rattle.prefix_walks.proofs.Elements.{elements_none, source_parts}
 use Rattle.std.proofs.lemmas.Bool.{ltb-true, lt-ltb}
 use Rattle.trace.proofs.Sources.{length-counted}
-use Rattle.prefix_walks.specs.Spans.{after, span}
 
 -- items after others
 pub grown : (w : Trace) (ys zs : List Item) → append (append w (trace ys end.Done)) (trace zs end.Done) ≡ append w (trace (ys ++ zs) end.Done)

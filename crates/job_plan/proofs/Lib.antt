@@ -1,12 +1,9 @@
 -- The lemmas of this crate; the first line of each file says what they are about.
-pub mod BuiltLemmas
 pub mod CountLemmas
 pub mod EnoughLemmas
 pub mod FrontLemmas
 pub mod LentLemmas
-pub mod LinkLemmas
 pub mod LookLemmas
-pub mod MapLemmas
 pub mod MeaningLemmas
 pub mod NameLemmas
 pub mod PartLemmas
@@ -14,4 +11,3 @@ pub mod PassageLemmas
 pub mod SettleLemmas
 pub mod StretchLemmas
 pub mod WalkLemmas
-pub mod WindowLemmas

@@ -1,20 +1,15 @@
 -- The answers of routes are the answers of their file.
 use Rattle.std.proofs.Common.{◌≡◌, ℕ, suc, Bool, true, false, List, [], ◌∷◌, ◌++◌, length, Option, Some, None, refl, sym, ap, subst, ◌∙◌}
 use Rattle.std.specs.Prelude.{if◌then◌else◌, map, slice_get}
-use Rattle.std.specs.Cmp.Lexicographic.{same_text}
-use Rattle.std.proofs.lemmas.Cmp.{nat_list_eq_equiv}
-use Rattle.lambda_values.specs.Earlier.{Numbers}
-use Rattle.job_language.specs.Jobs.{AbstractPlainSource, range, range_closed, values, result, AbstractJob, job_stages_of, names_of}
+use Rattle.job_language.specs.Jobs.{AbstractJob, job_stages_of, names_of}
 use Rattle.job_language.specs.declared.job.JobStage.{JobStage}
 use Rattle.job_meaning.specs.declared.answer.Answer.{Answer}
 use Rattle.job_plan.specs.declared.plan.Named.{Named}
-use Rattle.job_meaning.specs.FileAnswers.{NamedAnswer, answer_after, answers_after, meaning_of, all_put_in, array_found, first_unusable, found, found_later, number_found, numbers_named, or_else, unless_unusable, unusable_at}
-use Rattle.job_meaning.specs.Names.{all_source_names, names_in_job, one_later, place_of, same_name}
-use Rattle.job_plan.specs.PlannedAnswers.{all_put_at, array_at, array_in, first_unusable_at, number_there, numbers_at, place_in, planned_after, planned_from, planned_meaning, unusable_there}
+use Rattle.job_meaning.specs.FileAnswers.{EarlierJob, NamedAnswer, answer_after, answers_after, meaning_of, all_put_in, first_unusable, found, found_later, job_found, jobs_found, numbers_of, unless_unusable}
+use Rattle.job_meaning.specs.Names.{names_in_job, one_later, place_of, same_name}
 use Rattle.job_plan.specs.declared.plan.JobPlan.{JobPlan}
-use Rattle.job_plan.specs.Building.{AreRoutes, IsRoute}
-use Rattle.job_plan.specs.Parts.{plan_names, plans_in}
-use Rattle.job_plan.specs.Plans.{AbstractPlan, all_placed, legs_answer, placed}
+use Rattle.job_plan.specs.Plans.{AbstractPlan, AreRoutes, IsRoute, all_placed, job_at, jobs_at, placed, plan_names, planned_after, planned_from, planned_meaning, plans_in}
+use Rattle.job_routes.specs.Legs.{legs_answer}
 use Rattle.job_meaning.specs.Walks.{fallback_of, instead_of_fault, source_walk}
 
 abbrev names_in : List NamedAnswer → List (List ℕ)
@@ -60,111 +55,29 @@ found_placed (a ∷ before) name =
     chosen a.answer (answers_in before) (place_of (names_in before) name) same
     ∙ ap (λ (o : Option (ℕ × Answer)). if same then Some (0, a.answer) else found_later o) (found_placed before name)
 
-module _ (answers : List Answer) where
-  unusable_paired : (place : ℕ) (o : Option Answer) (rest : Option ℕ) → or_else (unusable_there place o) rest ≡ or_else (unusable_at (paired place o)) rest
-  unusable_paired place None rest = refl
-  unusable_paired place (Some a) rest = refl
+job_paired : (n : Named) (o : Option Answer) → job_at n o ≡ job_found n.name (paired n.job o)
+job_paired n None = refl
+job_paired n (Some a) = refl
 
-  unusable_placed : (name : List ℕ) (o : Option ℕ) (ns : List Named) → first_unusable_at answers (placed name o ++ ns) ≡ or_else (unusable_at (with_answer answers o)) (first_unusable_at answers ns)
-  unusable_placed name None ns = refl
-  unusable_placed name (Some place) ns = unusable_paired place (slice_get answers place) (first_unusable_at answers ns)
+job_placed : (answers : List Answer) (name : List ℕ) (o : Option ℕ) (ns : List Named) → jobs_at answers (placed name o ++ ns) ≡ job_found name (with_answer answers o) ++ jobs_at answers ns
+job_placed answers name None ns = refl
+job_placed answers name (Some place) ns = ap (λ (js : List EarlierJob). js ++ jobs_at answers ns) (job_paired (record { name = name; job = place }) (slice_get answers place))
 
-  number_paired : (name : List ℕ) (place : ℕ) (o : Option Answer) (rest : Numbers) → number_there name o ++ rest ≡ number_found name (paired place o) ++ rest
-  number_paired name place None rest = refl
-  number_paired name place (Some a) rest = refl
-
-  number_placed : (name : List ℕ) (o : Option ℕ) (ns : List Named) → numbers_at answers (placed name o ++ ns) ≡ number_found name (with_answer answers o) ++ numbers_at answers ns
-  number_placed name None ns = refl
-  number_placed name (Some place) ns = number_paired name place (slice_get answers place) (numbers_at answers ns)
-
-  array_paired : (place : ℕ) (o : Option Answer) → array_in o ≡ array_found (paired place o)
-  array_paired place None = refl
-  array_paired place (Some a) = refl
-
-  array_placed : (o : Option ℕ) → array_at answers o ≡ array_found (with_answer answers o)
-  array_placed None = refl
-  array_placed (Some place) = array_paired place (slice_get answers place)
-
--- ---- all names of a job
-
-module _ (before : List NamedAnswer) where
-  first_placed : (names : List (List ℕ)) → first_unusable_at (answers_in before) (all_placed (names_in before) names) ≡ first_unusable before names
-  first_placed [] = refl
-  first_placed (name ∷ names) =
-      unusable_placed (answers_in before) name (place_of (names_in before) name) (all_placed (names_in before) names)
-      ∙ (λ i. or_else (unusable_at (found_placed before name i)) (first_placed names i))
-
-  numbers_placed : (names : List (List ℕ)) → numbers_at (answers_in before) (all_placed (names_in before) names) ≡ numbers_named before names
-  numbers_placed [] = refl
-  numbers_placed (name ∷ names) =
-      number_placed (answers_in before) name (place_of (names_in before) name) (all_placed (names_in before) names)
-      ∙ (λ i. number_found name (found_placed before name i) ++ numbers_placed names i)
-
--- ---- the places of names that stand among others
-
-abbrev has : List (List ℕ) → List ℕ → Bool
-has [] name = false
-has (other ∷ more) name = if same_name other name then true else has more name
-
-or_later : (b c : Bool) → c ≡ true → (if b then true else c) ≡ true
-or_later true c h = refl
-or_later false c h = h
-
-or_more : (b c d : Bool) → (c ≡ true → d ≡ true) → (if b then true else c) ≡ true → (if b then true else d) ≡ true
-or_more true c d more h = refl
-or_more false c d more h = more h
-
-has_left : (xs ys : List (List ℕ)) (name : List ℕ) → has xs name ≡ true → has (xs ++ ys) name ≡ true
-has_left [] ys name h = absurd (let z : false ≡ true = h in cc)
-has_left (x ∷ xs) ys name h = or_more (same_name x name) (has xs name) (has (xs ++ ys) name) (has_left xs ys name) h
-
-one_place : (before : List (List ℕ)) (other name : List ℕ) (ns : List Named) (more b : Bool) (o : Option ℕ) → same_name other name ≡ b → place_of before other ≡ o
-    → place_in ns name ≡ (if more then place_of before name else None) → place_in (placed other o ++ ns) name ≡ (if (if b then true else more) then place_of before name else None)
-one_place before other name ns more true (Some place) same at rest =
-    ap (λ (b : Bool). if b then Some place else place_in ns name) same ∙ sym at ∙ ap (place_of before) (same_text other name (sym same))
-one_place before other name ns true true None same at rest = rest
-one_place before other name ns false true None same at rest = rest ∙ sym at ∙ ap (place_of before) (same_text other name (sym same))
-one_place before other name ns more false (Some place) same at rest = ap (λ (b : Bool). if b then Some place else place_in ns name) same ∙ rest
-one_place before other name ns more false None same at rest = rest
-
-places_in : (before names : List (List ℕ)) (name : List ℕ) → place_in (all_placed before names) name ≡ (if has names name then place_of before name else None)
-places_in before [] name = refl
-places_in before (other ∷ names) name = one_place before other name (all_placed before names) (has names name) (same_name other name) (place_of before other) refl refl (places_in before names name)
-
-place_found : (before names : List (List ℕ)) (name : List ℕ) → has names name ≡ true → place_in (all_placed before names) name ≡ place_of before name
-place_found before names name h = places_in before names name ∙ ap (λ (b : Bool). if b then place_of before name else None) h
-
--- ---- the sources of a job
-
-module _ (before : List NamedAnswer) (names : List (List ℕ)) where
-  array_here : (name : List ℕ) → has names name ≡ true → array_at (answers_in before) (place_in (all_placed (names_in before) names) name) ≡ array_found (found before name)
-  array_here name h =
-      ap (array_at (answers_in before)) (place_found (names_in before) names name h)
-      ∙ array_placed (answers_in before) (place_of (names_in before) name)
-      ∙ ap array_found (found_placed before name)
-
-  sources_placed : (ss : List AbstractPlainSource) → ((name : List ℕ) → has (all_source_names ss) name ≡ true → has names name ≡ true)
-      → all_put_at (answers_in before) (all_placed (names_in before) names) ss ≡ all_put_in before ss
-  sources_placed [] within = refl
-  sources_placed (range a b ∷ ss) within = ap (λ (rest : List AbstractPlainSource). range a b ∷ rest) (sources_placed ss within)
-  sources_placed (range_closed a b ∷ ss) within = ap (λ (rest : List AbstractPlainSource). range_closed a b ∷ rest) (sources_placed ss within)
-  sources_placed (values vs ∷ ss) within = ap (λ (rest : List AbstractPlainSource). values vs ∷ rest) (sources_placed ss within)
-  sources_placed (result name ∷ ss) within =
-      let here = within name (ap (λ (b : Bool). if b then true else has (all_source_names ss) name) (nat_list_eq_equiv.refl name)) in
-      let rest = sources_placed ss (λ other h. within other (or_later (same_name name other) (has (all_source_names ss) other) h)) in
-      λ i. values (array_here name here i) ∷ rest i
+-- all jobs that a job names
+jobs_placed : (before : List NamedAnswer) (names : List (List ℕ)) → jobs_at (answers_in before) (all_placed (names_in before) names) ≡ jobs_found before names
+jobs_placed before [] = refl
+jobs_placed before (name ∷ names) =
+    job_placed (answers_in before) name (place_of (names_in before) name) (all_placed (names_in before) names)
+    ∙ (λ i. job_found name (found_placed before name i) ++ jobs_placed before names i)
 
 -- ---- the jobs of a file
 
 one_answer : (before : List NamedAnswer) (plan : AbstractPlan) (job : AbstractJob) → IsRoute (names_in before) plan job → planned_after (answers_in before) plan ≡ answer_after before job
 one_answer before plan job h =
-    let names = names_in_job job in
-    let within : (name : List ℕ) → has (all_source_names job.sources) name ≡ true → has names name ≡ true = λ name h. has_left (all_source_names job.sources) _ name h in
-    let first = ap (first_unusable_at (answers_in before)) h.named ∙ first_placed before names in
-    let env = ap (numbers_at (answers_in before)) h.named ∙ numbers_placed before names in
-    let sources = (λ i. all_put_at (answers_in before) (h.named i) (h.sources i)) ∙ sources_placed before names job.sources within in
-    (λ i. unless_unusable (first i) (instead_of_fault (h.fallback i) (legs_answer plan.legs (env i) (source_walk (sources i)))))
-    ∙ ap (λ (a : Answer). unless_unusable (first_unusable before names) (instead_of_fault (fallback_of job) a)) (h.answers (numbers_named before names) (all_put_in before job.sources))
+    let named = jobs_found before (names_in_job job) in
+    let all = ap (jobs_at (answers_in before)) h.named ∙ jobs_placed before (names_in_job job) in
+    (λ i. unless_unusable (first_unusable (all i)) (instead_of_fault (h.fallback i) (legs_answer plan.legs (numbers_of (all i)) (source_walk (all_put_in (all i) (h.sources i))))))
+    ∙ ap (λ (a : Answer). unless_unusable (first_unusable named) (instead_of_fault (fallback_of job) a)) (h.answers (numbers_of named) (all_put_in named job.sources))
 
 each_answer : (before : List NamedAnswer) (plans : List AbstractPlan) (jobs : List AbstractJob) → AreRoutes (names_in before) plans jobs → planned_from (answers_in before) plans ≡ answers_after before jobs
 each_answer before [] [] h = refl

@@ -5,7 +5,7 @@ use Rattle.std.specs.List.{position_or_len}
 use Rattle.std.specs.Cmp.Lexicographic.{pointwise}
 use Rattle.job_plan.specs.declared.plan.JobPlan.{JobPlan}
 use Rattle.job_meaning.specs.Names.{one_later, place_of}
-use Rattle.job_plan.specs.Parts.{plan_names}
+use Rattle.job_plan.specs.Plans.{plan_names}
 
 -- the place at which a search ends
 abbrev there : ℕ → ℕ → Option ℕ

@@ -5,8 +5,6 @@ use Rattle.trace.specs.declared.item.Item.{Item}
 use Rattle.trace.specs.declared.item.Fault.{Fault}
 use Rattle.trace.specs.declared.item.End.{End}
 use Rattle.trace.specs.declared.item.End.TheVariants as end
-use Rattle.trace.specs.declared.stage.Stage.{Stage}
-use Rattle.trace.specs.Stages.{AbstractStage, stage_of, stages_of}
 use Rattle.trace.specs.Trace.{Trace, trace, nothing, then_on, append}
 use Rattle.trace.proofs.JoinLemmas.{append_faulted, pipe_append, pipe_ended}
 use Rattle.early_stop.specs.Decisive.{Decides}
@@ -17,25 +15,24 @@ use Rattle.reduce_ops.specs.declared.partial.Partial.{Partial}
 use Rattle.reduce_ops.specs.ExactSums.{exact_sum as exactly_summed}
 use Rattle.reduce_ops.specs.Folds.{ones, unless_faulted}
 use Rattle.reduce_ops.specs.Parts.{StandsFor as FoldStands}
-use Rattle.reduce_ops.proofs.FoldLemmas.{wrapped_sum, counted}
 use Rattle.reduce_ops.proofs.SettledSums.{first_settles as first_sum_settles, sum_settled, sum_settles}
 use Rattle.find_ops.specs.Finds.{find_answer}
 use Rattle.find_ops.proofs.DecisionLemmas.{settled as find_settled}
-use Rattle.job_language.specs.Jobs.{AbstractTerminal, sum, count}
 use Rattle.job_plan.specs.Arrays.{AbstractArray, array, array_of, values_then, array_append}
-use Rattle.job_plan.specs.Parts.{IsFold, EndsFor, StandsEnough, StandsFor, is_running, is_settled, is_fault, may_search, settles, plan_in, plans_in}
+use Rattle.job_plan.specs.Parts.{IsFold, EndsFor, StandsEnough, StandsFor, is_running, is_settled, is_fault, may_search, settles}
+use Rattle.job_plan.specs.Plans.{plan_in, plans_in, AbstractPlan}
 use Rattle.prefix_walks.specs.Scans.{AbstractScan, scan, scan_append}
 use Rattle.job_meaning.specs.declared.answer.Answer.{Answer}
 use Rattle.job_meaning.specs.declared.answer.Answer.TheVariants as answer
 use Rattle.job_plan.specs.declared.fold_part.FoldPart.{FoldPart}
 use Rattle.job_plan.specs.declared.part.Part.{Part}
 use Rattle.job_plan.specs.declared.part.Part.TheVariants as part
-use Rattle.job_plan.specs.declared.outcome.Outcome.TheVariants as outcome
+use Rattle.job_routes.specs.declared.outcome.Outcome.TheVariants as outcome
 use Rattle.job_plan.specs.declared.plan.JobPlan.{JobPlan}
 use Rattle.prefix_walks.specs.Batches.{counted_as}
-use Rattle.job_plan.specs.Plans.{AbstractEnd, folding, finding, collecting, exactly, scanning, AbstractSegment, AbstractPlan, end_of, ended, given_answer, last_stage, outcome_of, walk_of}
+use Rattle.job_routes.specs.Legs.{AbstractEnd, folding, finding, collecting, exactly, scanning, AbstractSegment, ended, last_stage, outcome_of, walk_of}
 use Rattle.prefix_walks.specs.Pieces.{piece_of}
-use Rattle.job_meaning.specs.Walks.{answer_of, exact_answer, found_answer, unless_fault}
+use Rattle.job_meaning.specs.Walks.{exact_answer, found_answer, unless_fault}
 use Rattle.job_plan.proofs.SettleLemmas.{faults, find_settles, settles_on}
 
 -- ---- folds
@@ -171,19 +168,9 @@ prefixes_merge (scanning f g) n env a b p q r is s t =
     is (ap (λ (x : AbstractScan). x.op) t ∙ sym (ap (λ (x : AbstractScan). x.op) s)) ∙ (λ i. scan_append (s i) (t i).walk)
 prefixes_merge e n env a b p q r is s t = s
 
--- the number of the stage that ends a segment
-pub length-stages_of : (gs : List Stage) → length (stages_of gs) ≡ length gs
-length-stages_of [] = refl
-length-stages_of (g ∷ gs) = ap suc (length-stages_of gs)
-
 -- the part of no item
 pub none_stands : (s : AbstractSegment) (env : Numbers) (p : Part) → EndsFor s.ending (last_stage s) env p nothing → StandsFor s env p nothing
 none_stands s env p = subst (EndsFor s.ending (last_stage s) env p) (sym (pipe_ended s.first s.stages env end.Done))
-
--- one more of several
-pub stages_more : (gs : List Stage) (g : Stage) → stages_of (gs ++ g ∷ []) ≡ stages_of gs ++ stage_of g ∷ []
-stages_more [] g = refl
-stages_more (f ∷ gs) g = ap (λ (hs : List AbstractStage). stage_of f ∷ hs) (stages_more gs g)
 
 plans_snoc : (js : List JobPlan) (j : JobPlan) → plans_in (js ++ j ∷ []) ≡ plans_in js ++ plan_in j ∷ []
 plans_snoc [] j = refl
@@ -196,10 +183,6 @@ plans_more new js j rest e = ap (λ ks. plans_in ks ++ rest) e ∙ ap (λ ks. ks
 pub array_ends : (e : AbstractEnd) (n : ℕ) (env : Numbers) (c : AbstractArray) (w : Trace) (a : Answer) → EndsFor e n env (part.Array c) w → a ≡ unless_fault c.ending (answer.Array c.values) → outcome.Answer a ≡ ended e n env w
 array_ends collecting n env c w a s is = ap outcome.Answer (is ∙ ap (λ (k : AbstractArray). unless_fault k.ending (answer.Array k.values)) s)
 array_ends e n env c w a s is = absurd s
-
-pub no_items : {A : Type 0} (xs : List A) → length xs ≡ 0 → xs ≡ []
-no_items [] h = refl
-no_items (x ∷ xs) h = absurd (omega arith)
 
 -- ---- exact sums
 
@@ -270,11 +253,3 @@ settled_there (suc n) p h = by (is_running p) h
     by : (b : Bool) → (if b then false else is_settled p) ≡ true → (is_settled p ≡ true) × (b ≡ true → suc n ≡ 0)
     by true h = absurd (let z : false ≡ true = h in cc)
     by false h = (h, λ k. absurd (let z : false ≡ true = k in cc))
-
--- ---- terminals
-
--- the end of the last segment is the terminal
-pub terminal_ends : (d : AbstractTerminal) (n : ℕ) (env : Numbers) (t : Trace) → given_answer (ended (end_of d) n env t) ≡ answer_of n env d t
-terminal_ends sum n env t = ap (λ z. unless_fault t.ending (answer.Number z)) (wrapped_sum t.items)
-terminal_ends count n env t = ap (λ z. unless_fault t.ending (answer.Number z)) (counted t.items)
-terminal_ends d n env t = refl

@@ -17,7 +17,7 @@ use Rattle.slice_ops.specs.Slices.{AbstractSlice, sliced}
 use Rattle.job_plan.specs.declared.link_sink.Passage.{Passage}
 use Rattle.job_plan.specs.declared.link_sink.Passage.TheVariants as passage
 use Rattle.job_plan.specs.Passages.{EndsAs, HasPassed, IsAfter, fed_by, onward, passage_flow, through_link}
-use Rattle.job_plan.specs.Plans.{AbstractSegment, walk_of, AbstractEnd, last_stage}
+use Rattle.job_routes.specs.Legs.{AbstractSegment, walk_of, AbstractEnd, last_stage}
 use Rattle.job_plan.proofs.WalkLemmas.{enough_at_last, taken_none, piece_in_two, stands_more, stands_fault, stands_enough}
 use Rattle.job_plan.specs.declared.part.Part.{Part}
 use Rattle.job_plan.specs.Parts.{EndsFor, GoesOnFrom, HasTaken, StandsFor}

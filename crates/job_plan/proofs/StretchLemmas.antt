@@ -7,8 +7,7 @@ use Rattle.trace.specs.declared.feeding.Fed.TheVariants as fed
 use Rattle.trace.specs.Trace.{Trace, trace}
 use Rattle.batch_eval.specs.declared.pipeline.Pipeline.{Pipeline}
 use Rattle.batch_eval.specs.Pipelines.{piped}
-use Rattle.prefix_walks.specs.Pieces.{elements}
-use Rattle.prefix_walks.specs.Spans.{IsNotAfter}
+use Rattle.prefix_walks.specs.Pieces.{IsNotAfter, elements}
 use Rattle.job_plan.specs.Stretches.{IsWalked}
 use Rattle.prefix_walks.proofs.Elements.{elements_join, take_none}
 use Rattle.prefix_walks.proofs.FeedLemmas.{fed_both, fed_stopped, fed_none}

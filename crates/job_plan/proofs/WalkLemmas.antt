@@ -15,9 +15,8 @@ use Rattle.trace.specs.declared.feeding.Fed.TheVariants as fed
 use Rattle.trace.specs.Sinks.{IsFed}
 use Rattle.trace.specs.declared.sink.Flow.TheVariants as flow
 use Rattle.job_plan.specs.Parts.{EndsFor, HasTaken, StandsFor, flow_of, is_settled, may_search}
-use Rattle.job_plan.specs.Plans.{AbstractEnd, AbstractSegment, last_stage, walk_of}
-use Rattle.prefix_walks.specs.Pieces.{elements, piece_of}
-use Rattle.prefix_walks.specs.Spans.{IsNotAfter}
+use Rattle.job_routes.specs.Legs.{AbstractEnd, AbstractSegment, last_stage, walk_of}
+use Rattle.prefix_walks.specs.Pieces.{IsNotAfter, elements, piece_of}
 use Rattle.job_plan.proofs.LentLemmas.{grown}
 use Rattle.job_plan.proofs.PartLemmas.{settled}
 use Rattle.prefix_walks.proofs.ScanLemmas.{pieces_joined}

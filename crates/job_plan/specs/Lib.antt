@@ -1,10 +1,7 @@
 -- Condition: the files of this crate's definitions; the first line of each says what it is.
 pub mod Arrays
 pub mod Bases
-pub mod Building
-pub mod Links
 pub mod Parts
 pub mod Passages
-pub mod PlannedAnswers
 pub mod Plans
 pub mod Stretches

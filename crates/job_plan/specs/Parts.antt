@@ -1,20 +1,16 @@
--- Condition: what the parts, segments and sources of the program mean.
-use Rattle.std.specs.Prelude.{◌≡◌, ℕ, zero, suc, ℤ, Bool, true, false, if◌then◌else◌, ◌+◌, List, [], ◌∷◌, length, Option, Some, is_some, option_map, None}
+-- Condition: what the parts and sources of the program mean.
+use Rattle.std.specs.Prelude.{◌≡◌, ℕ, zero, suc, ℤ, Bool, true, false, if◌then◌else◌, List, Option, Some, is_some, None}
 use Rattle.lambda_values.specs.Earlier.{Numbers}
 use Rattle.trace.specs.declared.item.Item.{Item}
 use Rattle.trace.specs.declared.item.End.{End}
 use Rattle.trace.specs.declared.item.End.TheVariants as end
 use Rattle.trace.specs.declared.sink.Flow.{Flow}
 use Rattle.trace.specs.declared.sink.Flow.TheVariants as flow
-use Rattle.trace.specs.Stages.{pipe, stages_of}
 use Rattle.trace.specs.Trace.{Trace, trace, append}
 use Rattle.reduce_ops.specs.declared.op.Op.{Op}
 use Rattle.reduce_ops.specs.Parts.{StandsFor as FoldStands}
 use Rattle.reduce_ops.specs.Reaches.{StandsFor as SumStands, is_running as is_running_sum, is_settled as sum_is_settled, may_search as sum_may_search}
-use Rattle.slice_ops.specs.Slices.{slice_of}
-use Rattle.find_ops.specs.Finds.{find_of}
 use Rattle.find_ops.specs.Parts.{StandsFor as FindStands}
-use Rattle.job_language.specs.Jobs.{sources_of}
 use Rattle.early_stop.specs.Leaving.{IsEnough}
 use Rattle.job_plan.specs.Arrays.{array_of}
 use Rattle.job_plan.specs.Bases.{base_walk}
@@ -22,80 +18,10 @@ use Rattle.prefix_walks.specs.Scans.{scan}
 use Rattle.job_plan.specs.declared.fold_part.FoldPart.{FoldPart}
 use Rattle.job_plan.specs.declared.part.Part.{Part}
 use Rattle.job_plan.specs.declared.part.Part.TheVariants as part
-use Rattle.job_meaning.specs.declared.answer.Answer.{Answer}
-use Rattle.job_meaning.specs.declared.answer.Answer.TheVariants as answer
-use Rattle.job_plan.specs.declared.fallback.Fallback.{Fallback}
-use Rattle.job_plan.specs.declared.fallback.Fallback.TheVariants as fallback
-use Rattle.job_plan.specs.declared.ends.SegmentEnd.{SegmentEnd}
-use Rattle.job_plan.specs.declared.ends.SegmentEnd.TheVariants as ends
-use Rattle.job_plan.specs.declared.numbered_stages.NumberedStages.{NumberedStages}
-use Rattle.job_plan.specs.declared.segment.Segment.{Segment}
-use Rattle.job_plan.specs.declared.leg.Leg.{Leg}
-use Rattle.job_plan.specs.declared.leg.Link.{Link}
-use Rattle.job_plan.specs.declared.plan.JobPlan.{JobPlan}
 use Rattle.job_plan.specs.declared.source.Source.{Source}
 use Rattle.prefix_walks.specs.Batches.{counted_as}
-use Rattle.job_plan.specs.Plans.{AbstractEnd, folding, finding, collecting, exactly, scanning, AbstractSegment, AbstractLink, AbstractLeg, AbstractPlan, walk_of, last_stage, windowed}
+use Rattle.job_routes.specs.Legs.{AbstractEnd, folding, finding, collecting, exactly, scanning, AbstractSegment, walk_of, last_stage, windowed}
 use Rattle.trace.specs.declared.item.Fault.{Fault}
-
--- the end of a segment of the program
-abbrev pub end_in : SegmentEnd → AbstractEnd
-end_in (ends.Fold f) = folding f.op f.start f.counts
-end_in (ends.Find d) = finding (find_of d)
-end_in ends.Array = collecting
-end_in ends.ExactSum = exactly
-end_in (ends.Prefix p) = scanning p.op p.range
-
--- the number of the stage after stages of the program, and what these make of a walk
-abbrev pub number_after : NumberedStages → ℕ
-number_after s = s.first + length (stages_of s.list.items)
-
-abbrev pub walk_through : NumberedStages → Numbers → Trace → Trace
-walk_through s env t = pipe s.first (stages_of s.list.items) env t
-
--- a segment of the program
-abbrev pub segment_in : Segment → AbstractSegment
-segment_in s = record { first = s.stages.first; stages = stages_of s.stages.list.items; ending = end_in s.end }
-
--- a slice of the program with the stages before it, and several
-abbrev pub link_in : Link → AbstractLink
-link_in l = record { first = l.stages.first; stages = stages_of l.stages.list.items; slice = slice_of l.slice }
-
-abbrev pub links_in : List Link → List AbstractLink
-links_in [] = []
-links_in (l ∷ ls) = link_in l ∷ links_in ls
-
--- a leg of the program, and several
-abbrev pub leg_in : Leg → AbstractLeg
-leg_in l = record { from = l.window.from; to = l.window.to; links = links_in l.links.items; last = segment_in l.last }
-
-abbrev pub legs_in : List Leg → List AbstractLeg
-legs_in [] = []
-legs_in (l ∷ ls) = leg_in l ∷ legs_in ls
-
--- the answer that a fallback of the program means
-abbrev pub fallback_in : Fallback → Answer
-fallback_in (fallback.Number z) = answer.Number z
-fallback_in (fallback.Optional z) = answer.Optional (Some z)
-
--- the route of a job of the program, and several
-abbrev pub plan_in : JobPlan → AbstractPlan
-plan_in j = record {
-  name = j.name;
-  named = j.named.items;
-  sources = sources_of j.sources.items;
-  legs = record { scans = legs_in j.scans.items; last = leg_in j.last };
-  fallback = option_map fallback_in j.fallback;
-}
-
-abbrev pub plans_in : List JobPlan → List AbstractPlan
-plans_in [] = []
-plans_in (j ∷ js) = plan_in j ∷ plans_in js
-
--- the names of jobs of the program
-abbrev pub plan_names : List JobPlan → List (List ℕ)
-plan_names [] = []
-plan_names (j ∷ js) = j.name ∷ plan_names js
 
 -- the walk over a source of the program
 abbrev pub walk_in : Source → Trace

@@ -9,10 +9,20 @@ use Rattle.trace.specs.declared.feeding.Fed.TheVariants as fed
 use Rattle.trace.specs.declared.sink.Flow.{Flow}
 use Rattle.trace.specs.declared.sink.Flow.TheVariants as flow
 use Rattle.trace.specs.Trace.{Trace, trace, nothing, append}
-use Rattle.slice_ops.specs.Slices.{AbstractSlice, sliced}
+use Rattle.slice_ops.specs.Slices.{AbstractSlice, skip, sliced}
+use Rattle.batch_eval.specs.declared.pipeline.Pipeline.{Pipeline}
+use Rattle.trace.specs.Stages.{stages_of}
 use Rattle.job_plan.specs.declared.link_sink.Passage.{Passage}
 use Rattle.job_plan.specs.declared.link_sink.Passage.TheVariants as passage
-use Rattle.job_plan.specs.Plans.{AbstractSegment, walk_of}
+use Rattle.job_routes.specs.Legs.{AbstractLink, AbstractSegment, collecting, walk_of}
+
+-- a link that lets all items pass
+abbrev pub open_link : AbstractLink
+open_link = record { first = 0; stages = []; slice = skip 0 }
+
+-- stages of the program, as a segment that keeps the values
+abbrev pub line_in : Pipeline → AbstractSegment
+line_in l = record { first = l.first; stages = stages_of l.stages.now; ending = collecting }
 
 -- what a walk becomes in a slice, the stage with this number, and then in the stages of the next segment
 abbrev pub through_link : AbstractSlice → ℕ → AbstractSegment → Numbers → Trace → Trace

@@ -1,62 +1,14 @@
--- Design: the route of a job: what a run walks, from its sources to its answer.
-use Rattle.std.specs.Prelude.{ℕ, zero, suc, ℤ, pos, Bool, true, false, ◌+◌, List, [], ◌∷◌, ◌++◌, length, map as each_of, Option, Some, None}
+-- Design: the routes of the jobs of a file.
+use Rattle.std.specs.Prelude.{◌≡◌, ℕ, suc, List, [], ◌∷◌, ◌++◌, length, Option, Some, None, option_map, slice_get}
 use Rattle.lambda_values.specs.Earlier.{Numbers}
-use Rattle.trace.specs.declared.item.Item.{Item}
-use Rattle.trace.specs.Stages.{AbstractStage, pipe}
-use Rattle.trace.specs.Trace.{Trace, nothing, trace}
-use Rattle.reduce_ops.specs.declared.op.Op.{Op}
-use Rattle.reduce_ops.specs.declared.op.Op.TheVariants as op
-use Rattle.reduce_ops.specs.ExactSums.{exact_sum as exactly_summed}
-use Rattle.reduce_ops.specs.Folds.{fold_from, fold_items}
-use Rattle.reduce_ops.specs.Operators.{value_of}
-use Rattle.slice_ops.specs.Slices.{AbstractSlice, sliced}
-use Rattle.prefix_scan.specs.Prefixes.{Range, prefixed}
-use Rattle.prefix_walks.specs.Batches.{counted_as}
-use Rattle.prefix_walks.specs.Pieces.{elements}
-use Rattle.find_ops.specs.Finds.{Find, find_answer}
-use Rattle.job_language.specs.Jobs.{AbstractPlainSource, AbstractTerminal, sum, count, min, max, to_array, reduce, reduce_from, find, exact_sum}
+use Rattle.job_language.specs.Jobs.{AbstractJob, AbstractPlainSource, sources_of}
 use Rattle.job_meaning.specs.declared.answer.Answer.{Answer}
-use Rattle.job_meaning.specs.declared.answer.Answer.TheVariants as answer
-use Rattle.job_plan.specs.declared.outcome.Outcome.{Outcome}
-use Rattle.job_plan.specs.declared.outcome.Outcome.TheVariants as outcome
+use Rattle.job_meaning.specs.FileAnswers.{EarlierJob, all_put_in, first_unusable, numbers_of, unless_unusable}
+use Rattle.job_meaning.specs.Names.{names_in_job, place_of}
+use Rattle.job_meaning.specs.Walks.{after_stages, answer_of, fallback_of, instead_of_fault, source_walk}
+use Rattle.job_routes.specs.Legs.{AbstractLegs, fallback_in, leg_in, legs_answer, legs_in}
+use Rattle.job_plan.specs.declared.plan.JobPlan.{JobPlan}
 use Rattle.job_plan.specs.declared.plan.Named.{Named}
-use Rattle.job_meaning.specs.Names.{place_of}
-use Rattle.job_meaning.specs.Walks.{exact_answer, found_answer, instead_of_fault, source_walk, unless_fault}
-
--- the end of a segment: a fold (its operator, its start, and whether it counts), a find or a match, the values, an exact
--- sum, or a prefix (its operator and its range)
-pub data AbstractEnd : Type 0 where
-  folding : Op → Option ℤ → Bool → AbstractEnd
-  finding : Find → AbstractEnd
-  collecting : AbstractEnd
-  exactly : AbstractEnd
-  scanning : Op → Range → AbstractEnd
-
--- stages that look at one item at a time, the first one with this number, and what ends them
-pub record AbstractSegment : Type 0 where
-  pub first : ℕ
-  pub stages : List AbstractStage
-  pub ending : AbstractEnd
-
--- stages that look at one item at a time, the first one with this number, and a slice after them
-pub record AbstractLink : Type 0 where
-  pub first : ℕ
-  pub stages : List AbstractStage
-  pub slice : AbstractSlice
-
--- the positions of a walk that are gone over, from one on and up to another; slices that they go through one after the
--- other; and the segment after them
-pub record AbstractLeg : Type 0 where
-  pub from : ℕ
-  pub to : Option ℕ
-  pub links : List AbstractLink
-  pub last : AbstractSegment
-
--- legs of which each goes over the walk that the one before it gives: those that end in prefixes, and the last one, which
--- gives the answer
-pub record AbstractLegs : Type 0 where
-  pub scans : List AbstractLeg
-  pub last : AbstractLeg
 
 -- the route of a job: its sources; its legs; the earlier jobs that it names; and what it gives after a fault, if anything
 pub record AbstractPlan : Type 0 where
@@ -65,18 +17,6 @@ pub record AbstractPlan : Type 0 where
   pub sources : List AbstractPlainSource
   pub legs : AbstractLegs
   pub fallback : Option Answer
-
--- a terminal as the end of a segment
-abbrev pub end_of : AbstractTerminal → AbstractEnd
-end_of sum = folding op.Sum (Some (pos 0)) false
-end_of count = folding op.Sum (Some (pos 0)) true
-end_of min = folding op.Min None false
-end_of max = folding op.Max None false
-end_of to_array = collecting
-end_of exact_sum = exactly
-end_of (reduce f) = folding f None false
-end_of (reduce_from a f) = folding f (Some a) false
-end_of (find d) = finding d
 
 -- helper: a name with its place, if it has one
 abbrev pub placed : List ℕ → Option ℕ → List Named
@@ -88,79 +28,67 @@ abbrev pub all_placed : List (List ℕ) → List (List ℕ) → List Named
 all_placed before [] = []
 all_placed before (name ∷ names) = placed name (place_of before name) ++ all_placed before names
 
--- the fold of items: a number if it has a start, else an optional
-abbrev pub folded : Op → Option ℤ → List Item → Answer
-folded f (Some a) xs = answer.Number (fold_from (value_of f) a xs)
-folded f None xs = answer.Optional (fold_items (value_of f) xs)
-
--- what an end, the stage with this number, makes of a walk: a walk, or the answer of the job
-abbrev pub ended : AbstractEnd → ℕ → Numbers → Trace → Outcome
-ended (folding f a counts) n env t = outcome.Answer (unless_fault t.ending (folded f a (counted_as counts t.items)))
-ended (finding d) n env t = outcome.Answer (found_answer (find_answer d n env t))
-ended (scanning f r) n env t = outcome.Source (prefixed (value_of f) r n t)
-ended exactly n env t = outcome.Answer (exact_answer (exactly_summed n t))
-ended collecting n env t = outcome.Answer (unless_fault t.ending (answer.Array (each_of (λ (x : Item). x.value) t.items)))
-
--- the walk of a segment's source through its stages
-abbrev pub walk_of : AbstractSegment → Numbers → Trace → Trace
-walk_of s env t = pipe s.first s.stages env t
-
--- the number of the stage that ends a segment
-abbrev pub last_stage : AbstractSegment → ℕ
-last_stage s = s.first + length s.stages
-
--- what a segment makes of its source
-abbrev pub outcome_of : AbstractSegment → Numbers → Trace → Outcome
-outcome_of s env t = ended s.ending (last_stage s) env (walk_of s env t)
-
--- what a walk becomes in a link, and in several ones, one after the other
-abbrev pub link_walk : AbstractLink → Numbers → Trace → Trace
-link_walk l env t = sliced l.slice (l.first + length l.stages) env (pipe l.first l.stages env t)
-
-abbrev pub linked : List AbstractLink → Numbers → Trace → Trace
-linked [] env t = t
-linked (l ∷ ls) env t = linked ls env (link_walk l env t)
-
--- the items of a walk at these positions, with its end
-abbrev pub windowed : ℕ → Option ℕ → Trace → Trace
-windowed from to t = trace (elements from to t.items) t.ending
-
--- what a leg goes over of a walk
-abbrev pub leg_walk : AbstractLeg → Trace → Trace
-leg_walk l t = windowed l.from l.to t
-
--- what a leg makes of a walk
-abbrev pub leg_outcome : AbstractLeg → Numbers → Trace → Outcome
-leg_outcome l env t = outcome_of l.last env (linked l.links env (leg_walk l t))
-
--- the walk that a segment gives; one that gives an answer gives none
-abbrev pub given_walk : Outcome → Trace
-given_walk (outcome.Source t) = t
-given_walk (outcome.Answer a) = nothing
-
--- the answer that a segment gives; of one that gives a walk it is 0
-abbrev pub given_answer : Outcome → Answer
-given_answer (outcome.Source t) = answer.Number (pos 0)
-given_answer (outcome.Answer a) = a
-
--- what legs make of a walk, one after the other
-abbrev pub scanned : List AbstractLeg → Numbers → Trace → Trace
-scanned [] env t = t
-scanned (l ∷ ls) env t = scanned ls env (given_walk (leg_outcome l env t))
-
--- the leg with this number, from 0; a number after the last one's is the last one's
-abbrev pub leg_among : ℕ → List AbstractLeg → AbstractLeg → AbstractLeg
-leg_among k [] last = last
-leg_among zero (l ∷ ls) last = l
-leg_among (suc k) (l ∷ ls) last = leg_among k ls last
-
-abbrev pub leg_at : ℕ → AbstractLegs → AbstractLeg
-leg_at k legs = leg_among k legs.scans legs.last
-
--- the answer of legs
-abbrev pub legs_answer : AbstractLegs → Numbers → Trace → Answer
-legs_answer legs env t = given_answer (leg_outcome legs.last env (scanned legs.scans env t))
-
 -- the answer of a job by its route
 abbrev pub planned_answer : Numbers → AbstractPlan → Answer
 planned_answer env plan = instead_of_fault plan.fallback (legs_answer plan.legs env (source_walk plan.sources))
+
+-- helper: a job with its answer, if that is there
+abbrev pub job_at : Named → Option Answer → List EarlierJob
+job_at n None = []
+job_at n (Some a) = record { name = n.name; place = n.job; answer = a } ∷ []
+
+-- jobs with their answers, which are found by their places
+abbrev pub jobs_at : List Answer → List Named → List EarlierJob
+jobs_at before [] = []
+jobs_at before (n ∷ ns) = job_at n (slice_get before n.job) ++ jobs_at before ns
+
+-- the answer of a job after the answers of the jobs before it
+abbrev pub planned_after : List Answer → AbstractPlan → Answer
+planned_after before plan =
+    let named = jobs_at before plan.named in
+    unless_unusable (first_unusable named) (planned_answer (numbers_of named) (record plan { sources = all_put_in named plan.sources }))
+
+-- the answers of jobs in file order, after the answers of the jobs before them
+abbrev pub planned_from : List Answer → List AbstractPlan → List Answer
+planned_from before [] = []
+planned_from before (plan ∷ plans) = planned_after before plan ∷ planned_from (before ++ planned_after before plan ∷ []) plans
+
+-- the answers of the jobs of a file, in file order
+abbrev pub planned_meaning : List AbstractPlan → List Answer
+planned_meaning plans = planned_from [] plans
+
+-- a route of a job, after jobs with these names: it has the job's answer, whatever the arrays and the numbers of earlier
+-- jobs are
+pub record IsRoute (before : List (List ℕ)) (plan : AbstractPlan) (job : AbstractJob) : Type 0 where
+  pub name : plan.name ≡ job.name
+  pub named : plan.named ≡ all_placed before (names_in_job job)
+  pub sources : plan.sources ≡ job.sources
+  pub fallback : plan.fallback ≡ fallback_of job
+  pub answers : (env : Numbers) (ss : List AbstractPlainSource) → legs_answer plan.legs env (source_walk ss)
+      ≡ answer_of (suc (length job.stages)) env job.terminal (after_stages 1 job.stages env (source_walk ss))
+
+-- routes of jobs, in file order
+abbrev pub AreRoutes : List (List ℕ) → List AbstractPlan → List AbstractJob → Type 0
+AreRoutes before [] [] = Unit {0}
+AreRoutes before [] (job ∷ jobs) = ⊥
+AreRoutes before (plan ∷ plans) [] = ⊥
+AreRoutes before (plan ∷ plans) (job ∷ jobs) = IsRoute before plan job × AreRoutes (before ++ job.name ∷ []) plans jobs
+
+-- the route of a job of the program, and several
+abbrev pub plan_in : JobPlan → AbstractPlan
+plan_in j = record {
+  name = j.name;
+  named = j.named.items;
+  sources = sources_of j.sources.items;
+  legs = record { scans = legs_in j.scans.items; last = leg_in j.last };
+  fallback = option_map fallback_in j.fallback;
+}
+
+abbrev pub plans_in : List JobPlan → List AbstractPlan
+plans_in [] = []
+plans_in (j ∷ js) = plan_in j ∷ plans_in js
+
+-- the names of jobs of the program
+abbrev pub plan_names : List JobPlan → List (List ℕ)
+plan_names [] = []
+plan_names (j ∷ js) = j.name ∷ plan_names js

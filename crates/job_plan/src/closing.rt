@@ -4,7 +4,8 @@ ghost use Rattle.std.specs.Prelude.{◌≡◌, [], List, IfOk};
 ghost use Rattle.trace.specs.Trace.{Trace, append, trace};
 ghost use Rattle.trace.specs.declared.item.End.TheVariants as end;
 ghost use Rattle.trace.specs.declared.item.Item.{Item};
-ghost use Rattle.job_plan.specs.Parts.{GoesOnFrom, end_in, flow_of};
+ghost use Rattle.job_plan.specs.Parts.{GoesOnFrom, flow_of};
+ghost use Rattle.job_routes.specs.Legs.{end_in};
 
 use crate::end_part::EndPart;
 use crate::part::Part;

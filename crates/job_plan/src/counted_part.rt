@@ -7,15 +7,14 @@ ghost use Rattle.trace.specs.declared.item.End.TheVariants as end;
 ghost use Rattle.trace.specs.declared.item.Item.{Item as item};
 ghost use Rattle.reduce_ops.specs.Folds.{ones};
 ghost use Rattle.reduce_ops.specs.Parts.{StandsFor as FoldStands};
-ghost use Rattle.job_plan.specs.Parts.{IsFold, StandsFor, segment_in, walk_in};
+ghost use Rattle.job_plan.specs.Parts.{IsFold, StandsFor, walk_in};
+ghost use Rattle.job_routes.specs.Legs.{segment_in};
 ghost use Rattle.prefix_walks.specs.Pieces.{piece_of};
 
-use crate::ends::{Fold, SegmentEnd};
 use crate::fold_part::FoldPart;
-use crate::maps::are_maps;
 use crate::part::Part;
-use crate::segment::Segment;
 use crate::source::Source;
+use job_routes::{Fold, Segment, SegmentEnd, are_maps};
 use prefix_walks::{Window, are_faultless, within};
 use reduce_ops::{Op, Partial};
 use trace::{End, Item, MAX_SOURCE_SIZE, Stage};

@@ -7,12 +7,12 @@ ghost use Rattle.lambda_values.specs.Earlier.{Numbers};
 ghost use Rattle.trace.specs.Trace.{Trace, trace, append};
 ghost use Rattle.trace.specs.declared.item.End.TheVariants as end;
 ghost use Rattle.trace.specs.declared.item.Item.{Item as item};
-ghost use Rattle.job_plan.specs.Parts.{EndsFor, end_in, is_fault, is_settled, keeps_items, may_search};
-ghost use Rattle.job_plan.specs.Plans.{AbstractEnd};
+ghost use Rattle.job_plan.specs.Parts.{EndsFor, is_fault, is_settled, keeps_items, may_search};
+ghost use Rattle.job_routes.specs.Legs.{end_in, AbstractEnd};
 ghost use Rattle.job_plan.specs.declared.part.Part.{Part as any_part};
 
-use crate::ends::SegmentEnd;
 use batch_eval::FlaggedLanes;
+use job_routes::SegmentEnd;
 use lambda_values::Env;
 use prefix_walks::ItemPiece;
 use trace::{End, Item, NoMemory, SourceItems};

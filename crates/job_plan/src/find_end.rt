@@ -3,9 +3,9 @@
 ghost use Rattle.job_plan.specs.declared.part.Part.TheVariants as part;
 
 use crate::end_part::{EndPart, LastStage};
-use crate::ends::SegmentEnd;
 use crate::fronts::undecided;
 use find_ops::FindPart;
+use job_routes::SegmentEnd;
 use trace::{End, Item, NoMemory, SourceItems};
 
 impl EndPart for FindPart {

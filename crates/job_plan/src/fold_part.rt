@@ -7,14 +7,14 @@ ghost use Rattle.trace.specs.declared.item.Item.{Item as item};
 ghost use Rattle.reduce_ops.specs.declared.op.Op.{Op};
 ghost use Rattle.job_plan.specs.Parts.{IsFold};
 ghost use Rattle.prefix_walks.specs.Batches.{counted_as};
-ghost use Rattle.job_plan.specs.Plans.{folded};
+ghost use Rattle.job_routes.specs.Legs.{folded};
 ghost use Rattle.job_meaning.specs.Walks.{unless_fault};
 ghost use Rattle.job_plan.specs.declared.part.Part.TheVariants as part;
 
 use crate::end_part::{EndPart, LastStage, is_fault};
-use crate::ends::Fold;
 use batch_eval::FlaggedLanes;
 use job_meaning::Answer;
+use job_routes::Fold;
 use prefix_walks::{folded, folded_flagged};
 use reduce_ops::Partial;
 use trace::{End, Item, NoMemory, SourceItems};

@@ -2,23 +2,22 @@
 
 ghost use Rattle.std.specs.Prelude.{◌≡◌, true, IfOk, OnErr};
 ghost use Rattle.trace.specs.Trace.{nothing};
-ghost use Rattle.prefix_walks.specs.Spans.{IsNotAfter};
-ghost use Rattle.job_plan.specs.Parts.{EndsFor, StandsEnough, StandsFor, end_in, end_keeps_items};
-ghost use Rattle.job_plan.specs.Parts.{keeps_items, number_after, segment_in, walk_in};
-ghost use Rattle.prefix_walks.specs.Pieces.{piece_of};
+ghost use Rattle.prefix_walks.specs.Pieces.{IsNotAfter, piece_of};
+ghost use Rattle.job_plan.specs.Parts.{EndsFor, StandsEnough, StandsFor, end_keeps_items};
+ghost use Rattle.job_routes.specs.Legs.{end_in, number_after, segment_in};
+ghost use Rattle.job_plan.specs.Parts.{keeps_items, walk_in};
 
 use crate::counted_part::counted_part;
 use crate::end_part::{EndPart, LastStage};
-use crate::leg::Leg;
 use crate::lent_part::lent_part;
 use crate::part::Part;
 use crate::part_sink::{EndBrand, PartSink};
 use crate::room::with_room;
-use crate::segment::Segment;
 use crate::source::Walked;
 use crate::stretches::feed_until;
 use batch_eval::Registers;
 use early_stop::Stop;
+use job_routes::{Leg, Segment};
 use lambda_values::Env;
 use prefix_walks::Window;
 use std::alloc::Global;

@@ -12,9 +12,8 @@ ghost use Rattle.trace.specs.declared.item.Item.{Item as item};
 ghost use Rattle.slice_ops.specs.Rests.{rest_of};
 ghost use Rattle.slice_ops.specs.Slices.{AbstractSlice, limit, sliced};
 ghost use Rattle.batch_eval.specs.Pipelines.{piped};
-ghost use Rattle.job_plan.specs.Links.{line_in};
-ghost use Rattle.job_plan.specs.Passages.{EndsAs, HasPassed, IsAfter, fed_by, passage_flow, through_link};
-ghost use Rattle.job_plan.specs.Plans.{AbstractSegment, collecting};
+ghost use Rattle.job_plan.specs.Passages.{line_in, EndsAs, HasPassed, IsAfter, fed_by, passage_flow, through_link};
+ghost use Rattle.job_routes.specs.Legs.{AbstractSegment, collecting};
 
 use crate::closing::Closing;
 use crate::fronts::tested;

@@ -3,8 +3,7 @@
 ghost use Rattle.std.specs.Prelude.{◌≡◌, ◌<◌, length, IfOk, IfSome};
 ghost use Rattle.job_language.specs.Jobs.{job_of};
 ghost use Rattle.job_meaning.specs.Names.{names_in_job, place_of};
-ghost use Rattle.job_plan.specs.Parts.{plan_names};
-ghost use Rattle.job_plan.specs.Plans.{all_placed};
+ghost use Rattle.job_plan.specs.Plans.{plan_names, all_placed};
 
 use crate::plan::{JobPlan, Named};
 use job_language::Job;

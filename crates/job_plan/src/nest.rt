@@ -4,16 +4,15 @@ ghost use Rattle.std.specs.Prelude.{◌≡◌, ◌≤◌, ◌<◌, ℕ, suc, [],
 ghost use Rattle.batch_eval.specs.Pipelines.{piped};
 ghost use Rattle.trace.specs.Trace.{Trace};
 ghost use Rattle.slice_ops.specs.Slices.{slice_of, sliced};
-ghost use Rattle.job_plan.specs.Links.{line_in, open_link};
-ghost use Rattle.job_plan.specs.Parts.{link_in, links_in, number_after, walk_in, walk_through};
-ghost use Rattle.job_plan.specs.Passages.{through_link};
-ghost use Rattle.job_plan.specs.Plans.{linked};
+ghost use Rattle.job_plan.specs.Passages.{line_in, open_link, through_link};
+ghost use Rattle.job_routes.specs.Legs.{link_in, links_in, number_after, walk_through, linked};
+ghost use Rattle.job_plan.specs.Parts.{walk_in};
 
 use crate::closing::Closing;
-use crate::leg::Link;
 use crate::link_sink::{Junction, LinkBrand, LinkSink, Passage, Passing};
 use crate::source::Source;
 use batch_eval::{Pipeline, Registers};
+use job_routes::Link;
 use prefix_walks::Window;
 use slice_ops::SliceRest;
 use std::alloc::Global;

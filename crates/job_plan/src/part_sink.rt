@@ -8,11 +8,12 @@ ghost use Rattle.trace.specs.Sinks.{IsFed, flow_after};
 ghost use Rattle.trace.specs.declared.item.End.TheVariants as end;
 ghost use Rattle.trace.specs.declared.item.Item.{Item as item};
 ghost use Rattle.job_plan.specs.Arrays.{array};
-ghost use Rattle.job_plan.specs.Parts.{HasTaken, end_in, flow_of, is_settled, keeps_items};
+ghost use Rattle.job_plan.specs.Parts.{HasTaken, flow_of, is_settled, keeps_items};
+ghost use Rattle.job_routes.specs.Legs.{end_in};
 ghost use Rattle.job_plan.specs.declared.part.Part.{Part as part_kept};
 ghost use Rattle.job_plan.specs.declared.part.Part.TheVariants as kept;
-ghost use Rattle.job_plan.specs.declared.ends.SegmentEnd.{SegmentEnd};
-ghost use Rattle.job_plan.specs.declared.ends.SegmentEnd.TheVariants as ends;
+ghost use Rattle.job_routes.specs.declared.ends.SegmentEnd.{SegmentEnd};
+ghost use Rattle.job_routes.specs.declared.ends.SegmentEnd.TheVariants as ends;
 
 use crate::end_part::{EndPart, LastStage};
 use crate::part::Part;

@@ -3,18 +3,16 @@
 ghost use Rattle.std.specs.Prelude.{◌≡◌, IfOk, length};
 ghost use Rattle.job_language.specs.Jobs.{job_of, jobs_of, names_of};
 ghost use Rattle.job_meaning.specs.FileAnswers.{meaning_of};
-ghost use Rattle.job_plan.specs.Building.{IsRoute};
-ghost use Rattle.job_plan.specs.Parts.{leg_in, plan_in, plan_names, plans_in};
-ghost use Rattle.job_plan.specs.PlannedAnswers.{planned_meaning};
-ghost use Rattle.job_plan.specs.Plans.{leg_at};
+ghost use Rattle.job_meaning.specs.Walks.{instead_of_fault};
+ghost use Rattle.job_plan.specs.Plans.{IsRoute, plan_in, plan_names, planned_meaning, plans_in};
+ghost use Rattle.job_routes.specs.Legs.{leg_in, leg_at};
 
-use crate::building::legs_of;
-use crate::fallback::{Fallback, fallback_of};
-use crate::leg::Leg;
 use crate::lent_arrays::lent_arrays;
 use crate::likely::likely_size;
 use crate::names::named_in;
 use job_language::{Job, PlainSource};
+use job_meaning::Answer;
+use job_routes::{Fallback, Leg, fallback_of, legs_of};
 use std::alloc::Global;
 use stream_tokens::Bytes;
 use trace::NoMemory;
@@ -130,6 +128,19 @@ impl<'c> JobPlan<'c> {
             &self.scans[number]
         } else {
             &self.last
+        }
+    }
+
+    /// The answer of the job, by what its segments give: the fallback instead of a fault, if the job has one.
+    pub fn without_fault(&self, given: Answer) -> Answer
+        ensures { result ≡ instead_of_fault (plan_in self.now).fallback given }
+    {
+        let Some(fallback) = self.fallback else {
+            return given;
+        };
+        match given {
+            Answer::Fault(_) => fallback.answer(),
+            _ => given,
         }
     }
 }

@@ -2,12 +2,12 @@
 
 ghost use Rattle.std.specs.Prelude.{◌≡◌};
 ghost use Rattle.trace.specs.Trace.{nothing};
-ghost use Rattle.job_plan.specs.Parts.{EndsFor, end_in, end_keeps_items, keeps_items, number_after};
+ghost use Rattle.job_plan.specs.Parts.{EndsFor, end_keeps_items, keeps_items};
+ghost use Rattle.job_routes.specs.Legs.{end_in, number_after};
 
-use crate::maps::are_maps;
 use crate::part::Part;
-use crate::segment::Segment;
 use crate::source::Walked;
+use job_routes::{Segment, are_maps};
 use lambda_values::Env;
 use prefix_walks::Window;
 use std::alloc::Global;

@@ -9,14 +9,13 @@ ghost use Rattle.trace.specs.declared.item.End.TheVariants as end;
 ghost use Rattle.batch_eval.specs.Pipelines.{piped};
 ghost use Rattle.job_language.specs.Jobs.{sources_of};
 ghost use Rattle.job_plan.specs.Bases.{base_walk};
-ghost use Rattle.prefix_walks.specs.Pieces.{elements, piece_of};
-ghost use Rattle.prefix_walks.specs.Spans.{after};
+ghost use Rattle.prefix_walks.specs.Pieces.{after, elements, piece_of};
 ghost use Rattle.job_meaning.specs.Walks.{plain_values, source_walk, values_of};
 
-use crate::leg::Leg;
 use crate::sources::{PlainSources, items_of, plain_size};
 use batch_eval::{BatchSink, Pipeline, Registers, feed_batches};
 use job_language::PlainSource;
+use job_routes::Leg;
 use lambda_values::{Env, FaultKind};
 use prefix_walks::{GivenWalk, Portion, Window, feed_given, within};
 use trace::{End, Fault, Fed, Flow, NoMemory};
@@ -75,8 +74,8 @@ pub struct Walked<'g, 'a, 'c, 'e> {
 
 impl<'g, 'a, 'c> Source<'g, 'a, 'c> {
     ghost use Rattle.std.specs.Prelude.{◌-◌, min};
-    ghost use Rattle.job_plan.specs.Parts.{leg_in, walk_in};
-    ghost use Rattle.job_plan.specs.Plans.{leg_walk};
+    ghost use Rattle.job_routes.specs.Legs.{leg_in, leg_walk};
+    ghost use Rattle.job_plan.specs.Parts.{walk_in};
 
     /// All positions of sources. A part of their walk may borrow values. It takes no memory.
     pub fn of_sources(sources: &'a [PlainSource<'c>]) -> Source<'g, 'a, 'c>

@@ -2,17 +2,16 @@
 //! between isn't kept.
 
 ghost use Rattle.std.specs.Prelude.{◌≡◌, false, IfOk};
-ghost use Rattle.job_plan.specs.Parts.{GoesOnFrom, StandsFor, end_in, leg_in, may_search, number_after, walk_in};
-ghost use Rattle.job_plan.specs.Plans.{linked, walk_of};
+ghost use Rattle.job_plan.specs.Parts.{GoesOnFrom, StandsFor, may_search, walk_in};
+ghost use Rattle.job_routes.specs.Legs.{end_in, leg_in, number_after, linked, walk_of};
 
 use crate::end_part::LastStage;
-use crate::leg::{Leg, Link};
 use crate::nest::{Chain, Deepest, Nest};
-use crate::numbered_stages::NumberedStages;
 use crate::part::Part;
 use crate::part_sink::{EndBrand, PartSink};
 use crate::source::Walked;
 use batch_eval::Registers;
+use job_routes::{Leg, Link, NumberedStages};
 use slice_ops::Slice;
 use std::alloc::Global;
 use std::marker::{Brand, PhantomData};

@@ -9,8 +9,7 @@ ghost use Rattle.trace.specs.declared.feeding.Fed.TheVariants as fed;
 ghost use Rattle.trace.specs.declared.sink.Flow.TheVariants as flow;
 ghost use Rattle.batch_eval.specs.Pipelines.{piped};
 ghost use Rattle.job_plan.specs.Parts.{walk_in};
-ghost use Rattle.prefix_walks.specs.Pieces.{elements};
-ghost use Rattle.prefix_walks.specs.Spans.{IsNotAfter};
+ghost use Rattle.prefix_walks.specs.Pieces.{IsNotAfter, elements};
 ghost use Rattle.job_plan.specs.Stretches.{IsDecided, IsWalked};
 
 use crate::looking::{LeavingSink, Looking, STRETCH, StartBrand};

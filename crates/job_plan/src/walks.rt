@@ -2,13 +2,12 @@
 
 ghost use Rattle.std.specs.Prelude.{◌≡◌, ◌≤◌, ◌<◌, length, pos, IfOk, IfSome, slice_get, OnSome, Some};
 ghost use Rattle.trace.specs.Trace.{Trace};
-ghost use Rattle.job_plan.specs.Parts.{StandsFor, leg_in, legs_in, plan_in, segment_in, walk_in};
+ghost use Rattle.job_plan.specs.Parts.{StandsFor, walk_in};
+ghost use Rattle.job_routes.specs.Legs.{leg_in, legs_in, segment_in, leg_outcome, legs_answer};
+ghost use Rattle.job_plan.specs.Plans.{plan_in, planned_answer};
 ghost use Rattle.prefix_walks.specs.Pieces.{piece_of};
-ghost use Rattle.job_plan.specs.Plans.{leg_outcome, legs_answer, planned_answer};
 
 use crate::leaves::leaf_until;
-use crate::leg::Leg;
-use crate::outcome::Outcome;
 use crate::part::Part;
 use crate::plan::JobPlan;
 use crate::source::{Source, Walked};
@@ -16,6 +15,7 @@ use crate::streaming::streamed;
 use batch_eval::Registers;
 use early_stop::Never;
 use job_meaning::Answer;
+use job_routes::{Leg, Outcome};
 use lambda_values::Env;
 use prefix_walks::Window;
 use std::alloc::Global;

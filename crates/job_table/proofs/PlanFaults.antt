@@ -13,20 +13,20 @@ use Rattle.early_stop.specs.Leaving.{IsEnough}
 use Rattle.early_stop.proofs.Leaving.{enough_gives, enough_joined, enough_walked}
 use Rattle.job_meaning.specs.declared.answer.Answer.{Answer}
 use Rattle.job_meaning.specs.declared.answer.Answer.TheVariants as answer
-use Rattle.job_plan.specs.declared.outcome.Outcome.TheVariants as outcome
+use Rattle.job_routes.specs.declared.outcome.Outcome.TheVariants as outcome
 use Rattle.job_plan.specs.declared.fold_part.FoldPart.{FoldPart}
 use Rattle.job_plan.specs.declared.part.Part.{Part}
 use Rattle.job_plan.specs.declared.part.Part.TheVariants as part
 use Rattle.job_plan.specs.Parts.{EndsFor, end_fault, fold_fault}
-use Rattle.job_plan.specs.Plans.{AbstractEnd, folding, finding, collecting, exactly, scanning, AbstractPlan, AbstractSegment, ended, folded, given_answer, last_stage, leg_at, legs_answer, walk_of}
+use Rattle.job_routes.specs.Legs.{AbstractEnd, folding, finding, collecting, exactly, scanning, AbstractSegment, ended, folded, given_answer, last_stage, leg_at, legs_answer, walk_of}
+use Rattle.job_plan.specs.Plans.{AbstractPlan}
 use Rattle.prefix_walks.specs.Pieces.{piece_of}
-use Rattle.job_plan.specs.PlannedAnswers.{first_unusable_at}
+use Rattle.job_meaning.specs.FileAnswers.{first_unusable}
 use Rattle.prefix_walks.specs.Batches.{counted_as}
 use Rattle.job_meaning.specs.Walks.{instead_of_fault, unless_fault}
 use Rattle.prefix_walks.proofs.ScanLemmas.{pieces_joined, whole_piece}
 use Rattle.job_runner.specs.Cuts.{HasFault}
-use Rattle.job_table.specs.Runs.{IsCaught, run_of}
-use Rattle.job_table.specs.PlanSegments.{AbstractChain, PartStands, answer_of, answers_before, chain_at, gives_at, piece_between, plan_at, size_at, last_leg, walk_at}
+use Rattle.job_table.specs.PlanSegments.{AbstractChain, IsCaught, PartStands, answer_of, chain_at, named_at, run_of, gives_at, piece_between, plan_at, size_at, last_leg, walk_at}
 use Rattle.job_table.proofs.PlanParts.{answer_there, size_within}
 use Rattle.job_table.proofs.PlannedAnswers.{legs_there, walked_answer}
 
@@ -135,7 +135,7 @@ some_of None h = absurd (h refl)
 some_of (Some a) h = (a, refl)
 
 -- the fault of a part of a job that catches it
-pub caught_there : (plans : List AbstractPlan) (job segment : ℕ) (p : AbstractPlan) (q : Part) (r : Option Fault) → first_unusable_at (answers_before plans job) (plan_at plans job).named ≡ None → p ≡ plan_at plans job
+pub caught_there : (plans : List AbstractPlan) (job segment : ℕ) (p : AbstractPlan) (q : Part) (r : Option Fault) → first_unusable (named_at plans job) ≡ None → p ≡ plan_at plans job
     → p.fallback ≢ None → segment ≡ last_leg p.legs → r ≡ fold_fault q → IfSome r (λ f. IsCaught plans job segment q f)
 caught_there plans job segment p q None usable same caught last h = tt
 caught_there plans job segment p q (Some f) usable same caught last h =

@@ -2,21 +2,20 @@
 use Rattle.std.proofs.Common.{◌≡◌, ℕ, suc, ◌+◌, ◌-◌, ◌<◌, ◌≤◌, drop, length, Bool, true, false, List, [], ◌∷◌, Option, Some, None, Result, Ok, Err, IfOk, if◌then◌else◌, ◌==◌, ap, sym, subst, ◌∙◌, refl, arith, eq-eqb, ne_eqb, zero, get_or}
 use Rattle.trace.specs.Trace.{Trace, append, nothing}
 use Rattle.lambda_values.specs.Earlier.{Numbers}
-use Rattle.job_plan.specs.declared.outcome.Outcome.{Outcome}
+use Rattle.job_routes.specs.declared.outcome.Outcome.{Outcome}
 use Rattle.job_plan.specs.declared.part.Part.{Part}
 use Rattle.std.proofs.lemmas.List.{length-drop, length-take}
 use Rattle.early_stop.specs.Decisive.{Decides}
 use Rattle.early_stop.specs.Leaving.{IsEnough}
 use Rattle.early_stop.proofs.Leaving.{enough_as, enough_gives, enough_joined, enough_left}
-use Rattle.job_plan.specs.Parts.{EndsFor, StandsEnough, StandsFor, is_running, is_settled, may_search, plan_in, plans_in}
-use Rattle.job_plan.specs.Links.{is_linked}
-use Rattle.job_plan.specs.Plans.{AbstractEnd, AbstractLeg, AbstractLink, AbstractSegment, ended, exactly, given_answer, given_walk, last_stage, leg_at, legs_answer, linked, outcome_of, walk_of, AbstractLegs, leg_among, leg_outcome, scanned}
+use Rattle.job_plan.specs.Parts.{EndsFor, StandsEnough, StandsFor, is_running, is_settled, may_search}
+use Rattle.job_plan.specs.Plans.{plan_in, plans_in}
+use Rattle.job_routes.specs.Legs.{is_linked, AbstractEnd, AbstractLeg, AbstractLink, AbstractSegment, ended, exactly, given_answer, given_walk, last_stage, leg_at, legs_answer, linked, outcome_of, walk_of, AbstractLegs, leg_among, leg_outcome, scanned}
 use Rattle.job_plan.proofs.EnoughLemmas.{whole_enough}
 use Rattle.job_plan.proofs.PartLemmas.{other_ends, settled_decides}
-use Rattle.prefix_walks.specs.Pieces.{piece_of}
-use Rattle.prefix_walks.specs.Spans.{IsNotAfter}
+use Rattle.prefix_walks.specs.Pieces.{IsNotAfter, piece_of}
 use Rattle.prefix_walks.proofs.ScanLemmas.{pieces_joined, whole_piece}
-use Rattle.job_plan.proofs.LinkLemmas.{unlinked}
+use Rattle.job_routes.proofs.LinkLemmas.{unlinked}
 use Rattle.job_table.specs.PlanSegments.{AbstractChain, PartStands, given_at, gives_at, last_leg, piece_between, positions_of, size_at, source_at, upto, walk_at, walk_size, passed_on, plan_at}
 use Rattle.job_plan.specs.declared.plan.JobPlan.{JobPlan}
 

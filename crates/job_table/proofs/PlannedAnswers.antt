@@ -5,17 +5,15 @@ use Rattle.std.proofs.lemmas.List.{append-nil, drop_more}
 use Rattle.job_meaning.specs.declared.answer.Answer.{Answer}
 use Rattle.job_meaning.specs.declared.answer.Answer.TheVariants as answer
 use Rattle.job_plan.specs.declared.plan.JobPlan.{JobPlan}
-use Rattle.job_meaning.specs.FileAnswers.{unless_unusable}
-use Rattle.job_plan.specs.Parts.{plans_in}
-use Rattle.job_plan.specs.PlannedAnswers.{first_unusable_at, planned_after, planned_from, planned_meaning, put_into, all_put_at, put_at}
-use Rattle.job_plan.specs.Plans.{AbstractPlan, planned_answer, legs_answer}
+use Rattle.job_meaning.specs.FileAnswers.{EarlierJob, all_put_in, first_unusable, put_in, unless_unusable}
+use Rattle.job_plan.specs.Plans.{AbstractPlan, jobs_at, planned_after, planned_from, planned_meaning, plans_in}
+use Rattle.job_routes.specs.Legs.{legs_answer}
 use Rattle.job_runner.specs.Answers.{AreAnswers}
-use Rattle.job_table.specs.PlanSegments.{answer_of, answers_before, chain_at, plan_at, AbstractChain, PartStands, given_at, last_leg, size_at}
+use Rattle.job_table.specs.PlanSegments.{answer_of, answers_before, chain_at, named_at, plan_at, AbstractChain, PartStands, given_at, last_leg, size_at}
 use Rattle.lambda_values.specs.Earlier.{Numbers}
 use Rattle.job_language.specs.declared.job.PlainSource.{PlainSource}
 use Rattle.job_language.specs.Jobs.{AbstractPlainSource, source_of, sources_of}
 use Rattle.job_plan.specs.declared.part.Part.{Part}
-use Rattle.job_plan.specs.declared.plan.Named.{Named}
 use Rattle.job_meaning.specs.Walks.{instead_of_fault, source_walk}
 
 -- ---- one job
@@ -36,17 +34,19 @@ planned_there before (p ∷ ps) (suc job) d low =
 answer_is : (plans : List AbstractPlan) (job : ℕ) → job < length plans → answer_of plans job ≡ planned_after (answers_before plans job) (plan_at plans job)
 answer_is plans job low = planned_there [] plans job (answer.Number (pos 0)) low
 
+-- the answer of a chain, with what the job gives after a fault
+abbrev pub chain_answer : Option Answer → AbstractChain → Answer
+chain_answer instead chain = instead_of_fault instead (legs_answer chain.legs chain.numbers chain.source)
+
 -- the answer of a job that is walked
-pub walked_answer : (plans : List AbstractPlan) (job : ℕ) → job < length plans → first_unusable_at (answers_before plans job) (plan_at plans job).named ≡ None
-    → planned_answer (chain_at plans job).numbers (put_into (answers_before plans job) (plan_at plans job)) ≡ answer_of plans job
+pub walked_answer : (plans : List AbstractPlan) (job : ℕ) → job < length plans → first_unusable (named_at plans job) ≡ None → chain_answer (plan_at plans job).fallback (chain_at plans job) ≡ answer_of plans job
 walked_answer plans job low usable =
-    sym (answer_is plans job low ∙ ap (λ (o : Option ℕ). unless_unusable o (planned_answer (chain_at plans job).numbers (put_into (answers_before plans job) (plan_at plans job)))) usable)
+    sym (answer_is plans job low ∙ ap (λ (o : Option ℕ). unless_unusable o (chain_answer (plan_at plans job).fallback (chain_at plans job))) usable)
 
 -- the answer of a job that can't be run
-pub unusable_answer : (plans : List AbstractPlan) (job place : ℕ) → job < length plans → first_unusable_at (answers_before plans job) (plan_at plans job).named ≡ Some place
-    → answer.Unusable place ≡ answer_of plans job
+pub unusable_answer : (plans : List AbstractPlan) (job place : ℕ) → job < length plans → first_unusable (named_at plans job) ≡ Some place → answer.Unusable place ≡ answer_of plans job
 unusable_answer plans job place low unusable =
-    sym (answer_is plans job low ∙ ap (λ (o : Option ℕ). unless_unusable o (planned_answer (chain_at plans job).numbers (put_into (answers_before plans job) (plan_at plans job)))) unusable)
+    sym (answer_is plans job low ∙ ap (λ (o : Option ℕ). unless_unusable o (chain_answer (plan_at plans job).fallback (chain_at plans job))) unusable)
 
 -- ---- the answers before a job
 
@@ -88,25 +88,25 @@ planned_jobs items js ks same (Err e) l h = tt
 
 module _ (plans : List AbstractPlan) (job : ℕ) (p : AbstractPlan) (same : p ≡ plan_at plans job) where
   -- the sources of a job with the arrays put in
-  pub put_walk : (segment : ℕ) (sources : List AbstractPlainSource) → segment ≡ 0 → sources ≡ all_put_at (answers_before plans job) p.named p.sources → source_walk sources ≡ given_at (chain_at plans job) segment
+  pub put_walk : (segment : ℕ) (sources : List AbstractPlainSource) → segment ≡ 0 → sources ≡ all_put_in (jobs_at (answers_before plans job) p.named) p.sources → source_walk sources ≡ given_at (chain_at plans job) segment
   put_walk segment sources first put =
       ap source_walk put
-      ∙ ap (λ (q : AbstractPlan). source_walk (all_put_at (answers_before plans job) q.named q.sources)) same
+      ∙ ap (λ (q : AbstractPlan). source_walk (all_put_in (jobs_at (answers_before plans job) q.named) q.sources)) same
       ∙ ap (given_at (chain_at plans job)) (sym first)
 
   pub legs_there : (chain_at plans job).legs ≡ p.legs
   legs_there = sym (ap (λ (q : AbstractPlan). q.legs) same)
 
   -- the answer of a job that is walked
-  pub answered : {F : Type 0} (env : Numbers) (part : Part) (r : Result Answer F) → job < length plans → first_unusable_at (answers_before plans job) (plan_at plans job).named ≡ None → env ≡ (chain_at plans job).numbers
+  pub answered : {F : Type 0} (env : Numbers) (part : Part) (r : Result Answer F) → job < length plans → first_unusable (named_at plans job) ≡ None → env ≡ (chain_at plans job).numbers
       → PartStands (chain_at plans job) (last_leg (chain_at plans job).legs) 0 (size_at (chain_at plans job) (last_leg (chain_at plans job).legs)) part
       → IfOk r (λ answer. (chain : AbstractChain) → chain.legs ≡ p.legs → chain.numbers ≡ env → PartStands chain (last_leg chain.legs) 0 (size_at chain (last_leg chain.legs)) part
-      → answer ≡ instead_of_fault p.fallback (legs_answer chain.legs chain.numbers chain.source))
+      → answer ≡ chain_answer p.fallback chain)
       → IfOk r (λ answer. answer ≡ answer_of plans job)
   answered env part (Ok a) low usable numbers stands h =
       let chain = chain_at plans job in
       h chain legs_there (sym numbers) stands
-      ∙ (λ i. instead_of_fault (same i).fallback (legs_answer chain.legs chain.numbers chain.source))
+      ∙ (λ i. chain_answer (same i).fallback chain)
       ∙ walked_answer plans job low usable
   answered env part (Err e) low usable numbers stands h = tt
 
@@ -117,20 +117,20 @@ sources_more [] x = refl
 sources_more (y ∷ xs) x = ap (λ (ss : List AbstractPlainSource). source_of y ∷ ss) (sources_more xs x)
 
 -- one source more
-pub put_more : (before : List Answer) (named : List Named) (xs : List PlainSource) (i : ℕ) (x put : PlainSource) (old new : List PlainSource) (all : List AbstractPlainSource) → i < length xs → x ≡ get_or xs i x
-    → source_of put ≡ put_at before named (source_of x) → new ≡ old ++ put ∷ [] → sources_of old ++ all_put_at before named (sources_of (drop i xs)) ≡ all
-    → sources_of new ++ all_put_at before named (sources_of (drop (i + 1) xs)) ≡ all
-put_more before named xs i x put old new all low at is pushed so_far =
-    let rest = all_put_at before named (sources_of (drop (i + 1) xs)) in
+pub put_more : (named : List EarlierJob) (xs : List PlainSource) (i : ℕ) (x put : PlainSource) (old new : List PlainSource) (all : List AbstractPlainSource) → i < length xs → x ≡ get_or xs i x
+    → source_of put ≡ put_in named (source_of x) → new ≡ old ++ put ∷ [] → sources_of old ++ all_put_in named (sources_of (drop i xs)) ≡ all
+    → sources_of new ++ all_put_in named (sources_of (drop (i + 1) xs)) ≡ all
+put_more named xs i x put old new all low at is pushed so_far =
+    let rest = all_put_in named (sources_of (drop (i + 1) xs)) in
     ap (λ (ss : List AbstractPlainSource). ss ++ rest) (ap sources_of pushed ∙ sources_more old put)
     ∙ append_assoc (sources_of old) (source_of put ∷ []) rest
-    ∙ ap (λ (s : AbstractPlainSource). sources_of old ++ s ∷ rest) (is ∙ ap (λ (y : PlainSource). put_at before named (source_of y)) at)
-    ∙ sym (ap (λ (ys : List PlainSource). sources_of old ++ all_put_at before named (sources_of ys)) (drop_more xs i x low))
+    ∙ ap (λ (s : AbstractPlainSource). sources_of old ++ s ∷ rest) (is ∙ ap (λ (y : PlainSource). put_in named (source_of y)) at)
+    ∙ sym (ap (λ (ys : List PlainSource). sources_of old ++ all_put_in named (sources_of ys)) (drop_more xs i x low))
     ∙ so_far
 
 -- ---- a job that can't be run
 
 -- its answer, if it can't be run
-pub known_of : (plans : List AbstractPlan) (job : ℕ) (p : AbstractPlan) → p ≡ plan_at plans job → (place : ℕ) → job < length plans → first_unusable_at (answers_before plans job) p.named ≡ Some place
+pub known_of : (plans : List AbstractPlan) (job : ℕ) (p : AbstractPlan) → p ≡ plan_at plans job → (place : ℕ) → job < length plans → first_unusable (jobs_at (answers_before plans job) p.named) ≡ Some place
     → answer.Unusable place ≡ answer_of plans job
-known_of plans job p same place low unusable = unusable_answer plans job place low (ap (λ (q : AbstractPlan). first_unusable_at (answers_before plans job) q.named) (sym same) ∙ unusable)
+known_of plans job p same place low unusable = unusable_answer plans job place low (ap (λ (q : AbstractPlan). first_unusable (jobs_at (answers_before plans job) q.named)) (sym same) ∙ unusable)

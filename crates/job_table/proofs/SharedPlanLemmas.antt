@@ -7,9 +7,9 @@ use Rattle.lambda_values.proofs.expr.BoolExpr.TheLaws.TheKnot as exprs
 use Rattle.lambda_values.specs.contracts.expr.BoolExpr as truths
 use Rattle.lambda_values.specs.contracts.expr.LongExpr as longs
 use Rattle.trace.specs.contracts.stage.Stage as stages
-use Rattle.job_plan.specs.contracts.segment.Segment as segments
-use Rattle.job_plan.specs.contracts.leg.Link as links
-use Rattle.job_plan.specs.contracts.leg.Leg as legs
+use Rattle.job_routes.specs.contracts.segment.Segment as segments
+use Rattle.job_routes.specs.contracts.leg.Link as links
+use Rattle.job_routes.specs.contracts.leg.Leg as legs
 use Rattle.job_plan.specs.contracts.plan.JobPlan as jobs
 use Rattle.job_plan.specs.contracts.plan.Plan as plans
 use Rattle.prefix_walks.specs.contracts.folded_piece.FoldedPiece as pieces

@@ -1,26 +1,35 @@
--- Condition: the legs of a plan: what each goes over, and what its parts describe.
-use Rattle.std.specs.Prelude.{ℕ, zero, suc, pos, ◌-◌, ◌^◌, min, take, List, [], ◌∷◌, length, Option, Some, None, slice_index_or, if◌then◌else◌, ◌==◌}
+-- Condition: the legs of a plan: what each goes over, and what its parts describe; and the plan as what a run is over.
+use Rattle.std.specs.Prelude.{◌≡◌, ℕ, zero, suc, pos, ◌-◌, ◌^◌, min, take, List, [], ◌∷◌, length, Option, Some, None, slice_index_or, if◌then◌else◌, ◌==◌}
+use Rattle.std.specs.Coded.{×_prop}
+use Rattle.std.proofs.Props.{props}
+use base.Stored.{Coded-set, coded_list}
+use mir.Syntax.{static}
 use Rattle.lambda_values.specs.Earlier.{Numbers}
+use Rattle.lambda_values.specs.contracts.env.Env as envs
+use Rattle.trace.specs.declared.item.Fault.{Fault}
 use Rattle.trace.specs.Trace.{Trace}
+use Rattle.trace.specs.contracts.chunk.Chunk as chunks
+use Rattle.early_stop.specs.Decisive.{Decides}
+use Rattle.prefix_walks.specs.Pieces.{piece_of}
 use Rattle.job_meaning.specs.declared.answer.Answer.{Answer}
 use Rattle.job_meaning.specs.declared.answer.Answer.TheVariants as answer
-use Rattle.job_plan.specs.declared.outcome.Outcome.{Outcome}
-use Rattle.job_plan.specs.declared.part.Part.{Part}
-use Rattle.early_stop.specs.Decisive.{Decides}
-use Rattle.job_plan.specs.Parts.{StandsEnough}
-use Rattle.job_plan.specs.PlannedAnswers.{numbers_at, planned_meaning, put_into}
-use Rattle.job_plan.specs.Plans.{AbstractLeg, AbstractLegs, AbstractLink, AbstractPlan, collecting, given_walk, leg_at, leg_outcome, leg_walk, linked, outcome_of}
+use Rattle.job_meaning.specs.contracts.answer.Answer as answers
+use Rattle.job_meaning.specs.FileAnswers.{EarlierJob, all_put_in, first_unusable, numbers_of}
 use Rattle.job_meaning.specs.Walks.{source_walk}
-use Rattle.prefix_walks.specs.Pieces.{piece_of}
+use Rattle.job_routes.specs.declared.outcome.Outcome.{Outcome}
+use Rattle.job_routes.specs.Legs.{AbstractLeg, AbstractLegs, AbstractLink, collecting, given_walk, leg_at, leg_outcome, leg_walk, linked, outcome_of}
+use Rattle.job_plan.specs.declared.part.Part.{Part}
+use Rattle.job_plan.specs.declared.plan.JobPlan.{JobPlan}
+use Rattle.job_plan.specs.contracts.plan.JobPlan as plans
+use Rattle.job_plan.specs.Parts.{StandsEnough, fold_fault}
+use Rattle.job_plan.specs.Plans.{AbstractPlan, jobs_at, planned_meaning}
+use Rattle.job_runner.specs.Runs.{RunSpec}
 
 -- what a run walks of a job: its legs, what the first of them is given, and the numbers of the jobs that it names
 pub record AbstractChain : Type 0 where
   pub legs : AbstractLegs
   pub source : Trace
   pub numbers : Numbers
-
-abbrev pub chain_of : Numbers → AbstractPlan → AbstractChain
-chain_of env plan = record { legs = plan.legs; source = source_walk plan.sources; numbers = env }
 
 -- helper: the plan of no job
 abbrev no_plan : AbstractPlan
@@ -44,9 +53,17 @@ answer_of plans job = slice_index_or (planned_meaning plans) job (answer.Number 
 abbrev pub answers_before : List AbstractPlan → ℕ → List Answer
 answers_before plans job = take job (planned_meaning plans)
 
+-- the jobs that the job with this number names, with their answers
+abbrev pub named_at : List AbstractPlan → ℕ → List EarlierJob
+named_at plans job = jobs_at (answers_before plans job) (plan_at plans job).named
+
 -- what a run walks of the job with this number: with the arrays and the numbers of the jobs that it names
 abbrev pub chain_at : List AbstractPlan → ℕ → AbstractChain
-chain_at plans job = chain_of (numbers_at (answers_before plans job) (plan_at plans job).named) (put_into (answers_before plans job) (plan_at plans job))
+chain_at plans job = record {
+  legs = (plan_at plans job).legs;
+  source = source_walk (all_put_in (named_at plans job) (plan_at plans job).sources);
+  numbers = numbers_of (named_at plans job);
+}
 
 -- the number of the leg that gives the answer
 abbrev pub last_leg : AbstractLegs → ℕ
@@ -99,3 +116,40 @@ gives_at chain k = outcome_of (leg_at k chain.legs).last chain.numbers
 abbrev pub PartStands : AbstractChain → ℕ → ℕ → ℕ → Part → Type 0
 PartStands chain k from to part =
     StandsEnough (Decides (gives_at chain k) (walk_at chain k)) (leg_at k chain.legs).last chain.numbers part from (piece_between (size_at chain k) from to (walk_at chain k))
+
+-- ---- a run
+
+-- that two lists of jobs are equal is a fact: no two proofs of it differ
+pub one_plan : (xs ys : List JobPlan) → IsProp (xs ≡ ys)
+one_plan xs ys = Coded-set (coded_list (plans.the_row (record { mir = static; lft = [] })).coded) xs ys
+
+-- no answer that the job names is unusable, and these are the numbers that it takes
+abbrev pub IsTaken : List AbstractPlan → ℕ → Numbers → Type 0
+IsTaken plans job env = (first_unusable (named_at plans job) ≡ None) × (env ≡ (chain_at plans job).numbers)
+
+-- a part of this leg of the job ends in this fault; the leg gives the job's answer, by a fold; and the job, which is
+-- walked, gives another answer after a fault
+pub record IsCaught (plans : List AbstractPlan) (job segment : ℕ) (p : Part) (f : Fault) : Type 0 where
+  pub usable : first_unusable (named_at plans job) ≡ None
+  pub instead : Answer
+  pub gives : (plan_at plans job).fallback ≡ Some instead
+  pub last : segment ≡ last_leg (chain_at plans job).legs
+  pub fault : fold_fault p ≡ Some f
+
+-- a segment of the run is a leg of the plan
+abbrev pub run_of : List AbstractPlan → RunSpec Outcome Part Trace Answer Numbers
+run_of plans = record {
+  jobs = length plans;
+  last = λ job. last_leg (chain_at plans job).legs;
+  size = λ job. size_at (chain_at plans job);
+  goes_over = λ job. walk_at (chain_at plans job);
+  gives = λ job. gives_at (chain_at plans job);
+  stands_for = λ job. PartStands (chain_at plans job);
+  is_caught = IsCaught plans;
+  is_source = λ job segment walk. walk ≡ given_at (chain_at plans job) segment;
+  is_answer = λ job a. a ≡ answer_of plans job;
+  is_given = IsTaken plans;
+  one_source = λ job segment walk. Coded-set (chunks.the_row).coded walk (given_at (chain_at plans job) segment);
+  one_answer = λ job a. Coded-set (answers.the_row).coded a (answer_of plans job);
+  one_given = λ job env. ×_prop (hlevel props) (Coded-set (envs.the_row).coded env (chain_at plans job).numbers);
+}

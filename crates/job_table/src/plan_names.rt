@@ -1,12 +1,12 @@
 //! The answers of earlier jobs that the jobs of a plan take.
-ghost use Rattle.std.specs.Prelude.{◌≡◌, ◌<◌, ◌++◌, ℕ, true, length, map, slice_get, Some, None, IfErr, IfOk};
+ghost use Rattle.std.specs.Prelude.{◌≡◌, ◌<◌, ◌++◌, ℕ, true, length, List, map, slice_get, Some, None, IfErr, IfOk};
 ghost use Rattle.std.specs.Prelude.{if◌then◌else◌};
 ghost use Rattle.std.specs.Option.{option_map};
 ghost use Rattle.job_language.specs.Jobs.{source_of, sources_of, values};
-ghost use Rattle.job_meaning.specs.Walks.{array_of};
-ghost use Rattle.job_plan.specs.Parts.{plan_in, plans_in};
-ghost use Rattle.job_plan.specs.PlannedAnswers.{all_put_at, array_at, first_unusable_at, number_there, numbers_at};
-ghost use Rattle.job_plan.specs.PlannedAnswers.{place_in, put_at, unusable_there};
+ghost use Rattle.job_meaning.specs.FileAnswers.{EarlierJob, all_put_in, array_named, first_unusable, numbered};
+ghost use Rattle.job_meaning.specs.FileAnswers.{numbers_of, put_in};
+ghost use Rattle.job_meaning.specs.Walks.{array_of, number_of};
+ghost use Rattle.job_plan.specs.Plans.{job_at, jobs_at, plan_in, plans_in};
 ghost use Rattle.job_meaning.specs.declared.answer.Answer.{Answer as answers};
 ghost use Rattle.job_table.specs.PlanSegments.{answer_of, answers_before, chain_at, plan_at, size_at};
 
@@ -50,7 +50,7 @@ fn push_number(
     answer: &Answer,
     numbers: &mut Env,
 ) -> Result<(), NoMemory>
-    ensures { IfOk result (λ _. numbers.new ≡ numbers.old ++ number_there name.now (Some answer.now)) }
+    ensures { IfOk result (λ _. numbers.new ≡ numbers.old ++ numbered name.now (number_of answer.now)) }
 {
     let Some(number) = answer.number() else {
         return Ok(());
@@ -107,11 +107,12 @@ impl<'a, 'c, P: PlanBrand> PlanJobs<'a, 'c, P> {
     ) -> Result<bool, NoMemory>
         requires job { job < length (plans_in P.jobs) }
         requires earlier { (j : ℕ) (a : answers) → E.is_answer j a → a ≡ answer_of (plans_in P.jobs) j }
-        ensures usable { IfOk result
-            (λ usable. unusable_there name.now.job (slice_get (answers_before (plans_in P.jobs) job) name.now.job)
-            ≡ (if usable then None else Some name.now.job)) }
-        ensures number { IfOk result (λ usable. usable ≡ true → numbers.new ≡ numbers.old
-            ++ number_there name.now.name (slice_get (answers_before (plans_in P.jobs) job) name.now.job)) }
+        ensures usable { IfOk result (λ usable. (later : List EarlierJob) → first_unusable
+            (job_at name.now (slice_get (answers_before (plans_in P.jobs) job) name.now.job) ++ later)
+            ≡ (if usable then first_unusable later else Some name.now.job)) }
+        ensures number { IfOk result (λ usable. usable ≡ true → (later : List EarlierJob)
+            → numbers.new ++ numbers_of later ≡ numbers.old ++ numbers_of
+            (job_at name.now (slice_get (answers_before (plans_in P.jobs) job) name.now.job) ++ later)) }
     {
         let Some(answer) = self.named_answer(job, name.job, earlier)? else {
             return Ok(true);
@@ -135,10 +136,10 @@ impl<'a, 'c, P: PlanBrand> PlanJobs<'a, 'c, P> {
         requires job { job < length (plans_in P.jobs) }
         requires earlier { (j : ℕ) (a : answers) → E.is_answer j a → a ≡ answer_of (plans_in P.jobs) j }
         ensures usable { IfOk result (λ found. IfOk found (λ env.
-            (first_unusable_at (answers_before (plans_in P.jobs) job) named.now ≡ None)
-            × (env ≡ numbers_at (answers_before (plans_in P.jobs) job) named.now))) }
+            (first_unusable (jobs_at (answers_before (plans_in P.jobs) job) named.now) ≡ None)
+            × (env ≡ numbers_of (jobs_at (answers_before (plans_in P.jobs) job) named.now)))) }
         ensures unusable { IfOk result (λ found. IfErr found (λ place.
-            first_unusable_at (answers_before (plans_in P.jobs) job) named.now ≡ Some place)) }
+            first_unusable (jobs_at (answers_before (plans_in P.jobs) job) named.now) ≡ Some place)) }
     {
         let mut numbers = Env::empty(alloc);
         for name in named {
@@ -149,42 +150,45 @@ impl<'a, 'c, P: PlanBrand> PlanJobs<'a, 'c, P> {
         Ok(Ok(numbers))
     }
 
-    /// The array of the job with this name, as a source.
+    /// The array of the first of these jobs with this name, as a source. It compares the names from the first on; those
+    /// of the sources come first.
     fn array<'e, E: EarlierAnswers<Answer>>(
         &self,
         alloc: Global,
         job: usize,
-        plan: &JobPlan<'c>,
+        named: &[Named],
         name: &[u8],
         earlier: &'e E,
     ) -> Result<PlainSource<'e>, NoMemory>
         requires job { job < length (plans_in P.jobs) }
         requires earlier { (j : ℕ) (a : answers) → E.is_answer j a → a ≡ answer_of (plans_in P.jobs) j }
         ensures { IfOk result (λ array. source_of array
-            ≡ values (array_at (answers_before (plans_in P.jobs) job) (place_in plan.now.named.items name.now))) }
+            ≡ values (array_named (jobs_at (answers_before (plans_in P.jobs) job) named.now) name.now)) }
     {
-        let Some(named) = plan.job_named(name) else {
-            return Ok(PlainSource::Column(&[]));
-        };
-        match self.named_answer(job, named, earlier)? {
-            Some(answer) => array_source(alloc, answer),
-            None => Ok(PlainSource::Column(&[])),
+        for other in named {
+            if other.name.as_slice() != name {
+                continue;
+            }
+            if let Some(answer) = self.named_answer(job, other.job, earlier)? {
+                return array_source(alloc, answer);
+            }
         }
+        Ok(PlainSource::Column(&[]))
     }
 
-    /// A source; `result(NAME)` becomes the array of that job. Values are borrowed.
+    /// A source; `result(NAME)` becomes the array of the job with that name among these. Values are borrowed.
     fn put_source<'x, E: EarlierAnswers<Answer>>(
         &self,
         alloc: Global,
         job: usize,
-        plan: &JobPlan<'c>,
+        named: &[Named],
         source: &'x PlainSource<'c>,
         earlier: &'x E,
     ) -> Result<PlainSource<'x>, NoMemory>
         requires job { job < length (plans_in P.jobs) }
         requires earlier { (j : ℕ) (a : answers) → E.is_answer j a → a ≡ answer_of (plans_in P.jobs) j }
         ensures { IfOk result (λ put. source_of put
-            ≡ put_at (answers_before (plans_in P.jobs) job) plan.now.named.items (source_of source.now)) }
+            ≡ put_in (jobs_at (answers_before (plans_in P.jobs) job) named.now) (source_of source.now)) }
     {
         match source {
             PlainSource::Range { from, to } => Ok(PlainSource::Range {
@@ -197,7 +201,7 @@ impl<'a, 'c, P: PlanBrand> PlanJobs<'a, 'c, P> {
             }),
             PlainSource::Values(values) => Ok(PlainSource::Column(values)),
             PlainSource::Column(cells) => Ok(PlainSource::Column(cells)),
-            PlainSource::Result(name) => self.array(alloc, job, plan, name.as_slice(), earlier),
+            PlainSource::Result(name) => self.array(alloc, job, named, name.as_slice(), earlier),
         }
     }
 
@@ -211,12 +215,13 @@ impl<'a, 'c, P: PlanBrand> PlanJobs<'a, 'c, P> {
     ) -> Result<Vec<PlainSource<'x>>, NoMemory>
         requires job { job < length (plans_in P.jobs) }
         requires earlier { (j : ℕ) (a : answers) → E.is_answer j a → a ≡ answer_of (plans_in P.jobs) j }
-        ensures { IfOk result (λ sources. sources_of sources.items ≡ all_put_at (answers_before (plans_in P.jobs) job)
-            plan.now.named.items (sources_of plan.now.sources.items)) }
+        ensures { IfOk result (λ sources. sources_of sources.items
+            ≡ all_put_in (jobs_at (answers_before (plans_in P.jobs) job) plan.now.named.items)
+            (sources_of plan.now.sources.items)) }
     {
         let mut sources = Vec::new(alloc);
         for source in &plan.sources {
-            let put = self.put_source(alloc, job, plan, source, earlier)?;
+            let put = self.put_source(alloc, job, &plan.named, source, earlier)?;
             sources.push(put)?;
         }
         Ok(sources)

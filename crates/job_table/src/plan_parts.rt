@@ -2,9 +2,10 @@
 ghost use Rattle.std.specs.Prelude.{◌≡◌, ◌≢◌, ◌+◌, ◌<◌, ◌≤◌, ℕ, false, true};
 ghost use Rattle.std.specs.Prelude.{None, IfNone, IfOk, IfSome};
 ghost use Rattle.early_stop.specs.Decisive.{Decides};
-ghost use Rattle.job_plan.specs.Parts.{leg_in, may_search, plan_in, walk_in};
-ghost use Rattle.prefix_walks.specs.Spans.{IsNotAfter};
-ghost use Rattle.job_plan.specs.Plans.{leg_at, leg_walk, legs_answer};
+ghost use Rattle.job_routes.specs.Legs.{leg_in, leg_at, leg_walk, legs_answer};
+ghost use Rattle.job_plan.specs.Parts.{may_search, walk_in};
+ghost use Rattle.job_plan.specs.Plans.{plan_in};
+ghost use Rattle.prefix_walks.specs.Pieces.{IsNotAfter};
 ghost use Rattle.job_meaning.specs.Walks.{instead_of_fault};
 ghost use Rattle.job_table.specs.PlanSegments.{AbstractChain, PartStands, given_at, gives_at, last_leg};
 ghost use Rattle.job_table.specs.PlanSegments.{positions_of, size_at, upto, walk_at, walk_size};
@@ -12,7 +13,8 @@ ghost use Rattle.job_table.specs.PlanSegments.{positions_of, size_at, upto, walk
 use batch_eval::Registers;
 use early_stop::Stop;
 use job_meaning::Answer;
-use job_plan::{JobPlan, Leg, Part, Source, Walked, leaf_until, streamed};
+use job_plan::{JobPlan, Part, Source, Walked, leaf_until, streamed};
+use job_routes::Leg;
 use job_runner::{NoMemory, Piece};
 use lambda_values::Env;
 use prefix_walks::{GivenWalk, Window};

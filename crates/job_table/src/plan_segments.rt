@@ -1,11 +1,11 @@
 //! The jobs of a plan as segments of a run. A segment of the run is a leg of the plan.
 ghost use Rattle.std.specs.Prelude.{◌≡◌, ◌<◌, ℕ, length, IfNone, IfOk, IfSome};
 ghost use Rattle.job_meaning.specs.declared.answer.Answer.{Answer as answers};
-ghost use Rattle.job_plan.specs.Parts.{plans_in};
+ghost use Rattle.job_plan.specs.Plans.{plans_in};
 ghost use Rattle.job_runner.specs.Cuts.{IsPieceOf, Stands};
 ghost use Rattle.job_runner.specs.Runs.{DecidesIn};
-ghost use Rattle.job_table.specs.PlanSegments.{PartStands, answer_of, chain_at, given_at, last_leg, size_at};
-ghost use Rattle.job_table.specs.Runs.{IsTaken, run_of};
+ghost use Rattle.job_table.specs.PlanSegments.{IsTaken, PartStands, answer_of, chain_at, given_at, last_leg, run_of};
+ghost use Rattle.job_table.specs.PlanSegments.{size_at};
 
 use crate::plan_names::different;
 use crate::plan_parts::{catches, job_answer, next_walk, positions};
@@ -13,7 +13,8 @@ use crate::planned::{PlanBrand, PlanJobs};
 use batch_eval::Registers;
 use early_stop::{Never, Stop};
 use job_meaning::Answer;
-use job_plan::{Outcome, Part, Source, unwalked};
+use job_plan::{Part, Source, unwalked};
+use job_routes::Outcome;
 use job_runner::{
     Begun, CutPiece, EarlierAnswers, JobSegments, NextSource, NoMemory, Piece, SegmentInput,
 };

@@ -1,10 +1,8 @@
 //! The jobs of a plan, and their run.
 ghost use Rattle.std.specs.Prelude.{◌≡◌, ◌<◌, List, [], length, IfOk};
 ghost use Rattle.job_plan.specs.declared.plan.JobPlan.{JobPlan as job_plan};
-ghost use Rattle.job_plan.specs.Parts.{plan_in, plans_in};
-ghost use Rattle.job_plan.specs.PlannedAnswers.{planned_meaning};
-ghost use Rattle.job_table.specs.PlanSegments.{plan_at};
-ghost use Rattle.job_table.specs.Runs.{one_plan};
+ghost use Rattle.job_plan.specs.Plans.{plan_in, planned_meaning, plans_in};
+ghost use Rattle.job_table.specs.PlanSegments.{one_plan, plan_at};
 
 use job_meaning::Answer;
 use job_plan::{JobPlan, Plan};

@@ -1,11 +1,11 @@
 //! A piece of a leg of a job of a plan, with the sources of the job or what the leg before gave.
 ghost use Rattle.std.specs.Prelude.{◌≡◌, ℕ, false, true, IfNone, IfOk, IfSome};
 ghost use Rattle.job_meaning.specs.declared.answer.Answer.{Answer as answers};
-ghost use Rattle.job_plan.specs.Parts.{may_search, plans_in};
+ghost use Rattle.job_plan.specs.Parts.{may_search};
+ghost use Rattle.job_plan.specs.Plans.{plans_in};
 ghost use Rattle.job_runner.specs.Cuts.{IsPieceOf, Stands};
 ghost use Rattle.job_runner.specs.Runs.{DecidesIn};
-ghost use Rattle.job_table.specs.PlanSegments.{answer_of, chain_at, given_at, size_at};
-ghost use Rattle.job_table.specs.Runs.{IsTaken, run_of};
+ghost use Rattle.job_table.specs.PlanSegments.{IsTaken, answer_of, chain_at, given_at, run_of, size_at};
 
 use crate::plan_parts::walked_piece;
 use crate::planned::{PlanBrand, PlanJobs};

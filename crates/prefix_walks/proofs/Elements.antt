@@ -7,8 +7,7 @@ use Rattle.trace.specs.declared.item.Item.{Item}
 use Rattle.trace.specs.Cover.{distance, placed}
 use Rattle.trace.proofs.Sources.{length-placed}
 use Rattle.batch_eval.proofs.RangeLemmas.{drop_placed, take_placed}
-use Rattle.prefix_walks.specs.Pieces.{elements}
-use Rattle.prefix_walks.specs.Spans.{IsNotAfter, after, span}
+use Rattle.prefix_walks.specs.Pieces.{IsNotAfter, after, elements, span}
 
 module _ {A : Type 0} where
   abbrev empty : List A

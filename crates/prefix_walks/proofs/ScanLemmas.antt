@@ -16,8 +16,7 @@ use Rattle.prefix_scan.proofs.LoopLemmas.{drop_next, drop_past, fold_none}
 use Rattle.prefix_scan.proofs.ScanLemmas.{fold_all, fold_as, fold_cut, fold_joined, fold_more, length-scan_at, scan_cut, scan_is, scan_more}
 use Rattle.prefix_walks.specs.declared.folded_piece.FoldedPiece.{FoldedPiece}
 use Rattle.prefix_walks.specs.declared.folded_piece.PieceStart.{PieceStart}
-use Rattle.prefix_walks.specs.Pieces.{elements, piece_of}
-use Rattle.prefix_walks.specs.Spans.{after, IsNotAfter}
+use Rattle.prefix_walks.specs.Pieces.{IsNotAfter, after, elements, piece_of}
 use Rattle.prefix_walks.proofs.Elements.{elements_both, past_first, drop_none, elements_join}
 use Rattle.prefix_walks.specs.Scans.{all_items, items_of, mark, marks_of}
 

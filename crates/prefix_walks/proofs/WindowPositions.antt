@@ -2,8 +2,7 @@
 use Rattle.std.proofs.Common.{◌≡◌, ℕ, zero, suc, ◌+◌, ◌-◌, ◌<◌, min, List, [], ◌∷◌, length, take, drop, Option, Some, None, sym, ap, ◌∙◌, arith}
 use Rattle.std.proofs.lemmas.List.{drop-drop, length-drop, length-take}
 use Rattle.trace.specs.declared.item.Item.{Item}
-use Rattle.prefix_walks.specs.Pieces.{elements}
-use Rattle.prefix_walks.specs.Spans.{earlier, moved, span}
+use Rattle.prefix_walks.specs.Pieces.{earlier, elements, moved, span}
 use Rattle.prefix_walks.proofs.Elements.{clamped, drop_taken, take_none, take_of_none}
 
 -- the end of positions within others

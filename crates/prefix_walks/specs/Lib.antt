@@ -5,4 +5,3 @@ pub mod Kept
 pub mod Pieces
 pub mod Placing
 pub mod Scans
-pub mod Spans

@@ -2,8 +2,7 @@
 
 ghost use Rattle.std.specs.Prelude.{◌≡◌, ℕ, ◌≤◌, Option, Some, None};
 ghost use Rattle.trace.specs.Trace.{Trace, append};
-ghost use Rattle.prefix_walks.specs.Pieces.{piece_of};
-ghost use Rattle.prefix_walks.specs.Spans.{IsNotAfter};
+ghost use Rattle.prefix_walks.specs.Pieces.{IsNotAfter, piece_of};
 
 /// Two pieces of a walk side by side are one piece, and the piece of all positions is the walk.
 #[tactic(auto, using(crate::proofs::ScanLemmas::pieces_joined, crate::proofs::ScanLemmas::whole_piece))]

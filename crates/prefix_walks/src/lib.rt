@@ -1,7 +1,7 @@
 //! What a prefix keeps of a walk, and how a walk that was kept is walked again.
 //!
 //! Stands on `prefix_scan`, for folds and scans of pieces, on `reduce_ops`, for operators, and on `batch_eval` and
-//! `trace`, for walks. Used by `job_plan`, which says where a prefix ends a segment.
+//! `trace`, for walks. Used by `job_routes`, which says where a prefix ends a leg, and by `job_plan`, which walks legs.
 //! Begin with `specs/Scans.antt` and `prefix_part.rt`. A piece of a walk gives its items to a `PrefixPart`, which
 //! stores them in pieces of 1,024 with their folds, or borrows the values and the cheap stages that they come out of.
 //! Two parts side by side merge. `finish` gives a `GivenWalk`, whose items are scanned as `feed_given` takes them

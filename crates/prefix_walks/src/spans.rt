@@ -1,7 +1,7 @@
 //! Positions within the first of two lists, and after it.
 
 ghost use Rattle.std.specs.Prelude.{◌≡◌, min};
-ghost use Rattle.prefix_walks.specs.Spans.{after, earlier, moved, span};
+ghost use Rattle.prefix_walks.specs.Pieces.{after, earlier, moved, span};
 
 /// Elements of a list: this number of them, from a position on.
 #[derive(Clone, Copy)]

@@ -2,8 +2,7 @@
 
 ghost use Rattle.std.specs.Prelude.{◌≡◌, ◌≤◌, ◌<◌, ◌+◌, ◌-◌, ◌^◌, drop, length, take, IfNone, IfSome, List, None};
 ghost use Rattle.trace.specs.declared.item.Item.{Item as item};
-ghost use Rattle.prefix_walks.specs.Pieces.{elements};
-ghost use Rattle.prefix_walks.specs.Spans.{after};
+ghost use Rattle.prefix_walks.specs.Pieces.{after, elements};
 
 use crate::spans::{earlier, end_after, moved};
 

@@ -16,7 +16,7 @@ use Rattle.job_meaning.specs.declared.answer.Answer.{Answer}
 use Rattle.job_meaning.specs.declared.answer.Answer.TheVariants.{Unusable}
 use Rattle.job_meaning.specs.declared.answer.Answer.TheVariants as answer
 use Rattle.job_meaning.specs.Walks.{answer_of, exact_answer, fallback_as, found_answer, instead_of_fault, is_usable, number_as, unless_fault}
-use Rattle.job_meaning.specs.FileAnswers.{NamedAnswer, answer_after, answers_after, first_unusable, found, found_later, meaning_of, numbers_named, or_else, unless_unusable, unusable_at}
+use Rattle.job_meaning.specs.FileAnswers.{EarlierJob, NamedAnswer, answer_after, answers_after, first_unusable, found, found_later, job_found, jobs_found, meaning_of, numbers_of, unless_unusable}
 use Rattle.job_meaning.specs.Names.{names_in_job, same_name}
 use Rattle.report.specs.Named.{IsNamed}
 
@@ -79,22 +79,26 @@ found_low : (before : List NamedAnswer) (name : List ℕ) (f : ℕ × Answer) �
 found_low [] name f is = absurd (let z = is in cc)
 found_low (a ∷ before) name f is = chosen_low (same_name a.name name) a.answer (found before name) (length before) (found_low before name) f is
 
-if_low : (b : Bool) (place n i : ℕ) → place < n → (if b then None else Some place) ≡ Some i → i < n
-if_low true place n i low is = absurd (let z = is in cc)
-if_low false place n i low is = let e : place ≡ i = cc in omega arith
+-- each of these jobs has a place below this one
+abbrev AreLow : ℕ → List EarlierJob → Type 0
+AreLow n [] = Unit {0}
+AreLow n (j ∷ js) = (j.place < n) × AreLow n js
 
-unusable_low : (o : Option (ℕ × Answer)) (n : ℕ) → ((f : ℕ × Answer) → o ≡ Some f → f.0 < n) → (i : ℕ) → unusable_at o ≡ Some i → i < n
-unusable_low None n low i is = absurd (let z = is in cc)
-unusable_low (Some f) n low i is = if_low (is_usable f.1) f.0 n i (low f refl) is
+one_low : (n : ℕ) (name : List ℕ) (o : Option (ℕ × Answer)) (js : List EarlierJob) → ((f : ℕ × Answer) → o ≡ Some f → f.0 < n) → AreLow n js → AreLow n (job_found name o ++ js)
+one_low n name None js low rest = rest
+one_low n name (Some f) js low rest = (low f refl, rest)
 
-or_low : (o rest : Option ℕ) (n : ℕ) → ((i : ℕ) → o ≡ Some i → i < n) → ((i : ℕ) → rest ≡ Some i → i < n) → (i : ℕ) → or_else o rest ≡ Some i → i < n
-or_low None rest n low later i is = later i is
-or_low (Some place) rest n low later i is = low i is
+jobs_low : (before : List NamedAnswer) (names : List (List ℕ)) → AreLow (length before) (jobs_found before names)
+jobs_low before [] = tt
+jobs_low before (name ∷ names) = one_low (length before) name (found before name) (jobs_found before names) (found_low before name) (jobs_low before names)
 
-first_low : (before : List NamedAnswer) (names : List (List ℕ)) (i : ℕ) → first_unusable before names ≡ Some i → i < length before
-first_low before [] i is = absurd (let z = is in cc)
-first_low before (name ∷ names) i is =
-    or_low (unusable_at (found before name)) (first_unusable before names) (length before) (unusable_low (found before name) (length before) (found_low before name)) (first_low before names) i is
+chosen_unusable : (b : Bool) (place n i : ℕ) (later : Option ℕ) → place < n → (later ≡ Some i → i < n) → (if b then later else Some place) ≡ Some i → i < n
+chosen_unusable true place n i later low rest is = rest is
+chosen_unusable false place n i later low rest is = let e : place ≡ i = cc in omega arith
+
+first_low : (n : ℕ) (js : List EarlierJob) (i : ℕ) → AreLow n js → first_unusable js ≡ Some i → i < n
+first_low n [] i low is = absurd (let z = is in cc)
+first_low n (j ∷ js) i low is = chosen_unusable (is_usable j.answer) j.place n i (first_unusable js) low.0 (first_low n js i low.1) is
 
 answer_low : (o : Option ℕ) (a : Answer) (n : ℕ) → ((i : ℕ) → o ≡ Some i → i < n) → ((i : ℕ) → a ≡ Unusable i → ⊥) → (i : ℕ) → unless_unusable o a ≡ Unusable i → i < n
 answer_low None a n low other i is = absurd (other i is)
@@ -106,8 +110,9 @@ each_named : (names : List (List ℕ)) (before : List NamedAnswer) (jobs : List 
 each_named names before [] fits = tt
 each_named names before (job ∷ jobs) fits =
     let next : NamedAnswer = record { name = job.name; answer = answer_after before job } in
+    let named = jobs_found before (names_in_job job) in
     let l = length-append before (next ∷ []) in (
-      (λ i is. let low = answer_low (first_unusable before (names_in_job job)) _ (length before) (first_low before (names_in_job job)) (usable_instead job.terminal job.on_fault _ (usable (suc (length job.stages)) (numbers_named before (names_in_job job)) job.terminal _)) i is in omega arith),
+      (λ i is. let low = answer_low (first_unusable named) _ (length before) (λ k. first_low (length before) named k (jobs_low before (names_in_job job))) (usable_instead job.terminal job.on_fault _ (usable (suc (length job.stages)) (numbers_of named) job.terminal _)) i is in omega arith),
       each_named names (before ++ next ∷ []) jobs (omega arith),
     )
 

@@ -5,7 +5,7 @@ use Rattle.lambda_values.specs.Earlier.{Numbers}
 use Rattle.trace.specs.Trace.{Trace, append}
 use Rattle.job_language.specs.Jobs.{AbstractPlainSource, range, range_closed, values, result, AbstractJobStage, AbstractTerminal, AbstractJob}
 use Rattle.job_meaning.specs.declared.answer.Answer.{Answer}
-use Rattle.job_meaning.specs.FileAnswers.{NamedAnswer, all_put_in, answer_after, first_unusable, numbers_named, unless_unusable}
+use Rattle.job_meaning.specs.FileAnswers.{EarlierJob, NamedAnswer, all_put_in, answer_after, first_unusable, jobs_found, numbers_of, unless_unusable}
 use Rattle.job_meaning.specs.Names.{names_in_job}
 use Rattle.job_meaning.specs.Walks.{after_stages, answer_of, fallback_of, instead_of_fault, plain_values, source_walk}
 use Rattle.report_merge.specs.Cuts.{asked_job}
@@ -15,7 +15,7 @@ use Rattle.report_merge.specs.Mergeable.{are_items, cause_below, column_cause, f
 use Rattle.report_merge.specs.Merging.{answer_beside, beside, with_fallback}
 use Rattle.report_merge.proofs.AnswerLemmas.{answers_join}
 use Rattle.report_merge.proofs.LaterLemmas.{Within, later, one_source, stages_joined, stages_later, stages_within, walk_joined, walk_over, walk_within}
-use Rattle.report_merge.proofs.NamedLemmas.{Alike, answer_alike, numbers_alike, unusable_alike}
+use Rattle.report_merge.proofs.NamedLemmas.{Alike, answer_alike, jobs_alike}
 use Rattle.report_merge.proofs.Written.{Cells, WrittenJob, WrittenSource, column, literal, filled, filled_source, filled_sources, job_names_same, no_cells, no_column}
 
 impossible : {A : Type 0} → false ≡ true → A
@@ -111,7 +111,7 @@ cause_none above job h = none_below (has_column_job above (names_in_job job)) (i
 
 -- ---- the answer after the answers above it
 
-put_same : (ss : List WrittenSource) (g : Cells) (b : List NamedAnswer) → is_single (filled_sources no_cells ss) ≡ true → reads_column (filled_sources no_cells ss) ≡ true → all_put_in b (filled_sources g ss) ≡ filled_sources g ss
+put_same : (ss : List WrittenSource) (g : Cells) (b : List EarlierJob) → is_single (filled_sources no_cells ss) ≡ true → reads_column (filled_sources no_cells ss) ≡ true → all_put_in b (filled_sources g ss) ≡ filled_sources g ss
 put_same [] g b h c = refl
 put_same (s ∷ t ∷ ss) g b h c = impossible h
 put_same (column w ∷ []) g b h c = refl
@@ -155,24 +155,19 @@ module _ (job : WrittenJob) (above : List AbstractJob) (mergeable : cause_below 
         (unless_none (is_single (filled_sources no_cells job.sources)) cause.Concat one.0, unless_none (are_items job.stages) cause.Stage two.0, two.1)
 
     module _ (bs cs : List NamedAnswer) (alike : Alike above bs cs) (g : Cells) where
-      -- of a job over a column
-      bare_answer : answer_after bs (bare (filled g job)) ≡ unless_unusable (first_unusable cs names) (walk_answer (numbers_named cs names) (filled_sources g job.sources))
-      bare_answer =
-          let n = job_names_same g no_cells job in
-          let p = put_same job.sources g bs causes.0 c in
-          let u = unusable_alike above bs cs alike names names_none in
-          let v = numbers_alike above bs cs alike names names_none in
-          (λ i. unless_unusable (first_unusable bs (n i)) (walk_answer (numbers_named bs (n i)) (p i)))
-          ∙ (λ i. unless_unusable (u i) (walk_answer (v i) (filled_sources g job.sources)))
+      same_jobs : jobs_found bs (names_in_job (filled g job)) ≡ jobs_found cs names
+      same_jobs = ap (jobs_found bs) (job_names_same g no_cells job) ∙ jobs_alike above bs cs alike names names_none
 
-      full_answer : answer_after bs (filled g job) ≡ unless_unusable (first_unusable cs names) (instead_of_fault (fallback_of over_header) (walk_answer (numbers_named cs names) (filled_sources g job.sources)))
+      -- of a job over a column
+      bare_answer : answer_after bs (bare (filled g job)) ≡ unless_unusable (first_unusable (jobs_found cs names)) (walk_answer (numbers_of (jobs_found cs names)) (filled_sources g job.sources))
+      bare_answer =
+          (λ i. unless_unusable (first_unusable (same_jobs i)) (walk_answer (numbers_of (same_jobs i)) (all_put_in (same_jobs i) (filled_sources g job.sources))))
+          ∙ ap (λ (ss : List AbstractPlainSource). unless_unusable (first_unusable (jobs_found cs names)) (walk_answer (numbers_of (jobs_found cs names)) ss)) (put_same job.sources g (jobs_found cs names) causes.0 c)
+
+      full_answer : answer_after bs (filled g job) ≡ unless_unusable (first_unusable (jobs_found cs names)) (instead_of_fault (fallback_of over_header) (walk_answer (numbers_of (jobs_found cs names)) (filled_sources g job.sources)))
       full_answer =
-          let n = job_names_same g no_cells job in
-          let p = put_same job.sources g bs causes.0 c in
-          let u = unusable_alike above bs cs alike names names_none in
-          let v = numbers_alike above bs cs alike names names_none in
-          (λ i. unless_unusable (first_unusable bs (n i)) (instead_of_fault (fallback_of over_header) (walk_answer (numbers_named bs (n i)) (p i))))
-          ∙ (λ i. unless_unusable (u i) (instead_of_fault (fallback_of over_header) (walk_answer (v i) (filled_sources g job.sources))))
+          (λ i. unless_unusable (first_unusable (same_jobs i)) (instead_of_fault (fallback_of over_header) (walk_answer (numbers_of (same_jobs i)) (all_put_in (same_jobs i) (filled_sources g job.sources)))))
+          ∙ ap (λ (ss : List AbstractPlainSource). unless_unusable (first_unusable (jobs_found cs names)) (instead_of_fault (fallback_of over_header) (walk_answer (numbers_of (jobs_found cs names)) ss))) (put_same job.sources g (jobs_found cs names) causes.0 c)
 
   -- of a job that reads no column
   plain_answer : is_over_column over_header ≡ false → (bs cs : List NamedAnswer) → Alike above bs cs → (g h : Cells) → answer_after bs (filled g job) ≡ answer_after cs (filled h job)
@@ -196,9 +191,10 @@ module _ (job : WrittenJob) (above : List AbstractJob) (mergeable : cause_below 
         → (if t then beside job.terminal k m (answer_after bx (when_over t (filled gx job))) (answer_after by (when_over t (filled gy job))) else Some (answer_after bx (when_over t (filled gx job)))) ≡ Some (answer_after bz (when_over t (filled gz job)))
     by_kind true c =
         let good = causes c in
-        let env = numbers_named bz names in
+        let named = jobs_found bz names in
+        let env = numbers_of named in
         (λ i. beside job.terminal k m (bare_answer c bx bz left gx i) (bare_answer c by bz right gy i))
-        ∙ usable_joins job.terminal k m (first_unusable bz names) (walk_answer env (filled_sources gx job.sources)) (walk_answer env (filled_sources gy job.sources)) (walk_answer env (filled_sources gz job.sources))
+        ∙ usable_joins job.terminal k m (first_unusable named) (walk_answer env (filled_sources gx job.sources)) (walk_answer env (filled_sources gy job.sources)) (walk_answer env (filled_sources gz job.sources))
         (walks_join k m gx gy gz joined job.stages job.terminal (suc (length job.stages)) env good.1 good.2 job.sources good.0 c)
         ∙ ap Some (sym (bare_answer c bz bz self gz))
     by_kind false c = ap Some (plain_answer c bx bz left gx gz)
@@ -214,6 +210,6 @@ module _ (job : WrittenJob) (above : List AbstractJob) (mergeable : cause_below 
       by_column : (t : Bool) → is_over_column over_header ≡ t → (if t then instead_of_fault (fallback_of over_header) (answer_after bs (when_over t (filled g job))) else answer_after bs (when_over t (filled g job))) ≡ answer_after cs (filled g job)
       by_column true c =
           ap (instead_of_fault (fallback_of over_header)) (bare_answer c bs cs alike g)
-          ∙ fallback_usable (fallback_of over_header) (first_unusable cs names) (walk_answer (numbers_named cs names) (filled_sources g job.sources))
+          ∙ fallback_usable (fallback_of over_header) (first_unusable (jobs_found cs names)) (walk_answer (numbers_of (jobs_found cs names)) (filled_sources g job.sources))
           ∙ sym (full_answer c cs cs self g)
       by_column false c = plain_answer c bs cs alike g g

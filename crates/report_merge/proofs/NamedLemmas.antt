@@ -1,11 +1,10 @@
 -- What a job that names no job over a column finds among the answers above it.
 use Rattle.std.proofs.Common.{◌≡◌, ℕ, Bool, true, false, List, [], ◌∷◌, ◌++◌, Some, refl, sym, ap, ◌∙◌}
 use Rattle.std.specs.Prelude.{◌&&◌, ◌||◌, if◌then◌else◌}
-use Rattle.job_language.specs.Jobs.{AbstractPlainSource, range, range_closed, values, result, AbstractJob}
+use Rattle.job_language.specs.Jobs.{AbstractJob}
 use Rattle.job_meaning.specs.declared.answer.Answer.{Answer}
-use Rattle.job_meaning.specs.FileAnswers.{NamedAnswer, answer_after, all_put_in, array_found, first_unusable, found, found_later, number_found, numbers_named, or_else, unless_unusable, unusable_at}
-use Rattle.job_meaning.specs.Names.{all_source_names, all_stage_names, names_in_job, same_name, terminal_names}
-use Rattle.job_meaning.specs.Walks.{answer_of_job}
+use Rattle.job_meaning.specs.FileAnswers.{EarlierJob, NamedAnswer, answer_after, answer_with, found, found_later, job_found, jobs_found}
+use Rattle.job_meaning.specs.Names.{names_in_job, same_name}
 use Rattle.report_merge.specs.Mergeable.{has_column_job, is_column_job, is_over_column}
 
 -- two answers of one job: equal if it isn't over a column
@@ -72,37 +71,12 @@ found_alike (j ∷ jobs) (b ∷ bs) (c ∷ cs) name h e =
     ∙ sym (ap (λ (n : List ℕ). if same_name n name then Some (0, c.answer) else found_later (found cs name)) h.0.right)
 
 module _ (jobs : List AbstractJob) (bs cs : List NamedAnswer) (alike : Alike jobs bs cs) where
-  pub unusable_alike : (names : List (List ℕ)) → has_column_job jobs names ≡ false → first_unusable bs names ≡ first_unusable cs names
-  unusable_alike [] e = refl
-  unusable_alike (name ∷ names) e =
+  pub jobs_alike : (names : List (List ℕ)) → has_column_job jobs names ≡ false → jobs_found bs names ≡ jobs_found cs names
+  jobs_alike [] e = refl
+  jobs_alike (name ∷ names) e =
       let parts = neither (is_column_job jobs name) (has_column_job jobs names) e in
-      (λ i. or_else (unusable_at (found_alike jobs bs cs name alike parts.0 i)) (unusable_alike names parts.1 i))
-
-  pub numbers_alike : (names : List (List ℕ)) → has_column_job jobs names ≡ false → numbers_named bs names ≡ numbers_named cs names
-  numbers_alike [] e = refl
-  numbers_alike (name ∷ names) e =
-      let parts = neither (is_column_job jobs name) (has_column_job jobs names) e in
-      (λ i. number_found name (found_alike jobs bs cs name alike parts.0 i) ++ numbers_alike names parts.1 i)
-
-  front_names : (names more : List (List ℕ)) → has_column_job jobs (names ++ more) ≡ false → has_column_job jobs names ≡ false
-  front_names [] more e = refl
-  front_names (name ∷ names) more e =
-      let parts = neither (is_column_job jobs name) (has_column_job jobs (names ++ more)) e in
-      (λ i. parts.0 i || front_names names more parts.1 i)
-
-  put_alike : (ss : List AbstractPlainSource) → has_column_job jobs (all_source_names ss) ≡ false → all_put_in bs ss ≡ all_put_in cs ss
-  put_alike [] e = refl
-  put_alike (range a b ∷ ss) e = ap (λ (rs : List AbstractPlainSource). range a b ∷ rs) (put_alike ss e)
-  put_alike (range_closed a b ∷ ss) e = ap (λ (rs : List AbstractPlainSource). range_closed a b ∷ rs) (put_alike ss e)
-  put_alike (values vs ∷ ss) e = ap (λ (rs : List AbstractPlainSource). values vs ∷ rs) (put_alike ss e)
-  put_alike (result name ∷ ss) e =
-      let parts = neither (is_column_job jobs name) (has_column_job jobs (all_source_names ss)) e in
-      (λ i. values (array_found (found_alike jobs bs cs name alike parts.0 i)) ∷ put_alike ss parts.1 i)
+      (λ i. job_found name (found_alike jobs bs cs name alike parts.0 i) ++ jobs_alike names parts.1 i)
 
   -- a job that names no job over a column has one answer after both
   pub answer_alike : (job : AbstractJob) → has_column_job jobs (names_in_job job) ≡ false → answer_after bs job ≡ answer_after cs job
-  answer_alike job e =
-      let u = unusable_alike (names_in_job job) e in
-      let v = numbers_alike (names_in_job job) e in
-      let p = put_alike job.sources (front_names (all_source_names job.sources) (all_stage_names job.stages ++ terminal_names job.terminal) e) in
-      (λ i. unless_unusable (u i) (answer_of_job (v i) (record { name = job.name; sources = p i; stages = job.stages; terminal = job.terminal; on_fault = job.on_fault })))
+  answer_alike job e = ap (λ (named : List EarlierJob). answer_with named job) (jobs_alike (names_in_job job) e)

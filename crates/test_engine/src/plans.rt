@@ -2,7 +2,8 @@
 
 use crate::shown::{plan_of, shown};
 use columns::Columns;
-use job_plan::{JobPlan, Leg, SplitTree, walk, walk_tree};
+use job_plan::{JobPlan, SplitTree, walk, walk_tree};
+use job_routes::Leg;
 use lambda_values::Env;
 use std::alloc::{AllocError, Global};
 use std::test::Fail;

@@ -1,5 +1,5 @@
 use Rattle.std.proofs.Common.{◌≡◌}
-use Rattle.job_plan.specs.Parts.{plan_names}
+use Rattle.job_plan.specs.Plans.{plan_names}
 use Rattle.engine.proofs.running.names_in.Given as goal
 
 abbrev pub invariant-loop-job : goal.invariant-loop-job

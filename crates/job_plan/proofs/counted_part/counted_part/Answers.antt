@@ -1,9 +1,9 @@
 use Rattle.std.proofs.Common.{◌≡◌, true, length, ap, ◌∙◌, arith}
 use Rattle.trace.specs.Stages.{stages_of}
 use Rattle.prefix_walks.specs.Faultless.{AreFaultless}
-use Rattle.job_plan.specs.Building.{AreMaps}
+use Rattle.job_routes.specs.Building.{AreMaps}
 use Rattle.job_plan.specs.Parts.{walk_in}
-use Rattle.prefix_walks.specs.Spans.{span}
+use Rattle.prefix_walks.specs.Pieces.{span}
 use Rattle.job_plan.proofs.CountLemmas.{counted_stands}
 use Rattle.job_plan.proofs.counted_part.counted_part.Goals as goal
 

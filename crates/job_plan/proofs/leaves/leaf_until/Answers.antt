@@ -1,4 +1,5 @@
-use Rattle.job_plan.specs.Parts.{segment_in, walk_in}
+use Rattle.job_routes.specs.Legs.{segment_in}
+use Rattle.job_plan.specs.Parts.{walk_in}
 use Rattle.prefix_walks.specs.Pieces.{piece_of}
 use Rattle.job_plan.proofs.EnoughLemmas.{whole_enough}
 use Rattle.job_plan.proofs.leaves.leaf_until.Goals as goal

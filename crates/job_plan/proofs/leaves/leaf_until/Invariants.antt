@@ -1,4 +1,4 @@
-use Rattle.job_plan.specs.Parts.{number_after}
+use Rattle.job_routes.specs.Legs.{number_after}
 use Rattle.job_plan.proofs.leaves.leaf_until.Given as goal
 
 abbrev pub ghosts-leaf_until_as : goal.ghosts-leaf_until_as

@@ -6,9 +6,9 @@ use Rattle.trace.specs.Sinks.{IsFed}
 use Rattle.trace.specs.Trace.{Trace, trace, nothing, append}
 use Rattle.job_plan.specs.declared.part_sink.PartSink.{PartSink}
 use Rattle.job_plan.specs.declared.part.Part.{Part}
-use Rattle.job_plan.specs.Parts.{EndsFor, HasTaken, StandsFor, end_in, is_settled, segment_in, walk_in}
+use Rattle.job_plan.specs.Parts.{EndsFor, HasTaken, StandsFor, is_settled, walk_in}
+use Rattle.job_routes.specs.Legs.{end_in, segment_in, last_stage, walk_of}
 use Rattle.prefix_walks.specs.Pieces.{elements, piece_of}
-use Rattle.job_plan.specs.Plans.{last_stage, walk_of}
 use Rattle.job_plan.proofs.PartLemmas.{none_stands}
 use Rattle.job_plan.proofs.WalkLemmas.{after_enough, after_fault, after_more, enough_is_settled, same_ending, settled_first, taken_none, unpinned}
 use Rattle.job_plan.proofs.EnoughLemmas.{whole_enough, none_enough}

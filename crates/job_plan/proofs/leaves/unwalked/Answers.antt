@@ -1,4 +1,4 @@
-use Rattle.job_plan.specs.Parts.{segment_in}
+use Rattle.job_routes.specs.Legs.{segment_in}
 use Rattle.job_plan.proofs.PartLemmas.{none_stands}
 use Rattle.job_plan.proofs.leaves.unwalked.Goals as goal
 

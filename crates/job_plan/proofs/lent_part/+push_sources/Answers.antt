@@ -8,7 +8,8 @@ use Rattle.prefix_walks.specs.Pieces.{elements}
 use Rattle.job_meaning.specs.Walks.{values_of}
 use Rattle.job_plan.proofs.LentLemmas.{first_part, scanned_both, scanned_none}
 use Rattle.prefix_walks.proofs.FaultlessLemmas.{left_both}
-use Rattle.job_plan.proofs.PartLemmas.{no_items, on_ok_map}
+use Rattle.job_plan.proofs.PartLemmas.{on_ok_map}
+use Rattle.job_routes.proofs.RouteLemmas.{no_items}
 use Rattle.job_plan.proofs.lent_part.+push_sources.Goals as goal
 
 pub returns-in-None : goal.returns-in-None

@@ -5,7 +5,8 @@ use Rattle.trace.proofs.Sources.{length-placed}
 use Rattle.job_language.specs.Jobs.{sources_of}
 use Rattle.job_meaning.specs.Walks.{values_of}
 use Rattle.job_plan.specs.Bases.{base_walk}
-use Rattle.job_plan.specs.Parts.{number_after, walk_in}
+use Rattle.job_routes.specs.Legs.{number_after}
+use Rattle.job_plan.specs.Parts.{walk_in}
 use Rattle.trace.specs.Stages.{stages_of}
 use Rattle.trace.specs.Trace.{trace, nothing, append}
 use Rattle.prefix_walks.specs.Faultless.{AreFaultless, left_by}

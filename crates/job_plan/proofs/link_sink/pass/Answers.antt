@@ -11,8 +11,7 @@ use Rattle.batch_eval.specs.Pipelines.{piped}
 use Rattle.job_plan.specs.declared.link_sink.Passage.{Passage}
 use Rattle.job_plan.specs.declared.link_sink.Passage.TheVariants as passage
 use Rattle.job_plan.specs.declared.link_sink.Passing.{Passing}
-use Rattle.job_plan.specs.Links.{line_in}
-use Rattle.job_plan.specs.Passages.{HasPassed}
+use Rattle.job_plan.specs.Passages.{line_in, HasPassed}
 use Rattle.job_plan.proofs.PassageLemmas.{answered, passed_on}
 use Rattle.job_plan.proofs.link_sink.pass.Goals as goal
 

@@ -2,8 +2,7 @@ use Rattle.std.proofs.Common.{◌≡◌, ◌++◌}
 use Rattle.std.specs.Vec.Iter.{into_iter_items}
 use Rattle.job_language.specs.Jobs.{job_of}
 use Rattle.job_meaning.specs.Names.{names_in_job}
-use Rattle.job_plan.specs.Parts.{plan_names}
-use Rattle.job_plan.specs.Plans.{all_placed}
+use Rattle.job_plan.specs.Plans.{plan_names, all_placed}
 use Rattle.job_plan.proofs.names.named_in.Given as goal
 
 -- the names so far that have a place, and those that are left

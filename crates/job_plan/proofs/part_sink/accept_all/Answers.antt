@@ -1,6 +1,7 @@
 use Rattle.std.proofs.Common.{refl}
 use Rattle.batch_eval.specs.Batches.{laid_items}
-use Rattle.job_plan.specs.Parts.{HasTaken, end_in}
+use Rattle.job_plan.specs.Parts.{HasTaken}
+use Rattle.job_routes.specs.Legs.{end_in}
 use Rattle.batch_eval.proofs.LaneLemmas.{laid_values}
 use Rattle.job_plan.proofs.WalkLemmas.{enough_at_last, taken_on}
 use Rattle.job_plan.proofs.part_sink.accept_all.Goals as goal

@@ -8,7 +8,7 @@ use Rattle.job_meaning.specs.Walks.{values_of}
 use Rattle.prefix_walks.proofs.Elements.{elements_none}
 use Rattle.prefix_walks.proofs.FeedLemmas.{fed_none, fed_both, fed_stopped}
 use Rattle.job_plan.proofs.LentLemmas.{first_part}
-use Rattle.job_plan.proofs.PartLemmas.{no_items}
+use Rattle.job_routes.proofs.RouteLemmas.{no_items}
 use Rattle.job_plan.proofs.source.+feed_plain.Goals as goal
 
 pub returns-in-None-clause-fed : goal.returns-in-None-clause-fed

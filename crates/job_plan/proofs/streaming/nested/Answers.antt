@@ -1,8 +1,8 @@
 use Rattle.std.proofs.Common.{subst, ◌∙◌}
 use Rattle.batch_eval.specs.Pipelines.{piped}
 use Rattle.trace.specs.Trace.{Trace}
-use Rattle.job_plan.specs.Parts.{GoesOnFrom, end_in, leg_in, links_in, walk_in}
-use Rattle.job_plan.specs.Plans.{linked}
+use Rattle.job_plan.specs.Parts.{GoesOnFrom, walk_in}
+use Rattle.job_routes.specs.Legs.{end_in, leg_in, links_in, linked}
 use Rattle.job_plan.proofs.PassageLemmas.{begun_with, if_ok_map}
 use Rattle.job_plan.proofs.streaming.nested.Goals as goal
 

@@ -1,5 +1,5 @@
-use Rattle.job_plan.specs.Parts.{leg_in, segment_in, walk_in}
-use Rattle.job_plan.specs.Plans.{linked}
+use Rattle.job_routes.specs.Legs.{leg_in, segment_in, linked}
+use Rattle.job_plan.specs.Parts.{walk_in}
 use Rattle.job_plan.proofs.PassageLemmas.{stands_after, if_ok_map}
 use Rattle.job_plan.proofs.streaming.streamed.Goals as goal
 

@@ -1,4 +1,4 @@
-use Rattle.job_plan.specs.Parts.{number_after}
+use Rattle.job_routes.specs.Legs.{number_after}
 use Rattle.job_plan.proofs.streaming.streamed.Given as goal
 
 abbrev pub ghosts-nested : goal.ghosts-nested

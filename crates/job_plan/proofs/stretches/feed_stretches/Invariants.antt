@@ -4,9 +4,8 @@ use Rattle.trace.specs.declared.sink.Flow.TheVariants as flow
 use Rattle.trace.specs.declared.feeding.Fed.TheVariants as fed
 use Rattle.trace.specs.Trace.{trace}
 use Rattle.job_plan.specs.Parts.{walk_in}
-use Rattle.prefix_walks.specs.Pieces.{elements}
+use Rattle.prefix_walks.specs.Pieces.{IsNotAfter, elements}
 use Rattle.batch_eval.specs.Pipelines.{piped}
-use Rattle.prefix_walks.specs.Spans.{IsNotAfter}
 use Rattle.job_plan.specs.Stretches.{IsWalked}
 use Rattle.job_plan.proofs.stretches.feed_stretches.Given as goal
 

@@ -1,5 +1,6 @@
 use Rattle.std.proofs.Common.{Some, sym, ◌∙◌}
-use Rattle.job_plan.specs.Parts.{segment_in, walk_in}
+use Rattle.job_routes.specs.Legs.{segment_in}
+use Rattle.job_plan.specs.Parts.{walk_in}
 use Rattle.prefix_walks.specs.Pieces.{piece_of}
 use Rattle.job_plan.proofs.WalkLemmas.{merged_piece, not_after, settled_piece}
 use Rattle.job_plan.proofs.walks.+walk_piece.Goals as goal

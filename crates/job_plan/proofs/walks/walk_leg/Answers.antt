@@ -1,10 +1,10 @@
 use Rattle.std.proofs.Common.{None, sym, ap, ◌∙◌}
 use Rattle.trace.specs.Trace.{Trace}
-use Rattle.job_plan.specs.Parts.{leg_in, segment_in, walk_in}
-use Rattle.job_plan.specs.Plans.{linked, outcome_of}
+use Rattle.job_routes.specs.Legs.{leg_in, segment_in, linked, outcome_of}
+use Rattle.job_plan.specs.Parts.{walk_in}
 use Rattle.prefix_walks.specs.Pieces.{piece_of}
 use Rattle.prefix_walks.proofs.ScanLemmas.{whole_piece}
-use Rattle.job_plan.proofs.LinkLemmas.{unlinked}
+use Rattle.job_routes.proofs.LinkLemmas.{unlinked}
 use Rattle.job_plan.proofs.walks.walk_leg.Goals as goal
 
 pub returns-in-Some : goal.returns-in-Some

@@ -1,8 +1,9 @@
 use Rattle.std.proofs.Common.{◌≡◌, ◌∙◌, ap, refl, sym, subst}
 use Rattle.trace.specs.Trace.{Trace}
 use Rattle.lambda_values.specs.Earlier.{Numbers}
-use Rattle.job_plan.specs.Parts.{StandsFor, plan_in}
-use Rattle.job_plan.specs.Plans.{AbstractSegment, outcome_of}
+use Rattle.job_plan.specs.Parts.{StandsFor}
+use Rattle.job_plan.specs.Plans.{plan_in}
+use Rattle.job_routes.specs.Legs.{AbstractSegment, outcome_of}
 use Rattle.job_meaning.specs.Walks.{instead_of_fault}
 use Rattle.job_table.specs.PlanSegments.{last_leg}
 use Rattle.job_table.proofs.PlanParts.{last_answer}

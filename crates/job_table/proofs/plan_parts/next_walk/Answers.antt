@@ -2,7 +2,7 @@ use Rattle.std.proofs.Common.{◌∙◌, ◌≡◌, ◌+◌, ap, sym, subst, suc
 use Rattle.trace.specs.Trace.{Trace}
 use Rattle.lambda_values.specs.Earlier.{Numbers}
 use Rattle.job_plan.specs.Parts.{StandsFor}
-use Rattle.job_plan.specs.Plans.{AbstractSegment, outcome_of}
+use Rattle.job_routes.specs.Legs.{AbstractSegment, outcome_of}
 use Rattle.job_table.specs.PlanSegments.{given_at}
 use Rattle.job_table.proofs.PlanParts.{goes_nowhere, goes_over}
 use Rattle.job_table.proofs.plan_parts.next_walk.Goals as goal

@@ -1,6 +1,6 @@
 use Rattle.std.proofs.Common.{◌≡◌, ◌∙◌, ap, sym}
-use Rattle.job_plan.specs.Parts.{leg_in, walk_in}
-use Rattle.job_plan.specs.Plans.{leg_at, leg_walk}
+use Rattle.job_routes.specs.Legs.{leg_in, leg_at, leg_walk}
+use Rattle.job_plan.specs.Parts.{walk_in}
 use Rattle.job_table.specs.PlanSegments.{size_at, source_at}
 use Rattle.job_table.proofs.PlanParts.{one_piece, piece_stands, streamed_stands}
 use Rattle.job_table.proofs.plan_parts.walked_piece.Goals.{then-in_order-via-then-in_order, then-in_order-via-else-in_order+then-streams}

@@ -1,6 +1,6 @@
 use Rattle.std.proofs.Common.{◌≡◌, ◌+◌, ◌≤◌, ℕ, min, Option, Some, None, arith}
 use Rattle.batch_eval.proofs.LaneLemmas.{length_laid}
-use Rattle.prefix_walks.specs.Spans.{span}
+use Rattle.prefix_walks.specs.Pieces.{span}
 use Rattle.prefix_walks.proofs.folded_walk.feed_buffer.Goals as goal
 
 within : (from : ℕ) (to : Option ℕ) (n start count : ℕ) → start ≡ min from n → count ≡ span from to n → start + count ≤ n

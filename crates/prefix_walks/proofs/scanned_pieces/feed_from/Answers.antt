@@ -4,9 +4,8 @@ use Rattle.trace.specs.declared.item.Item.{Item}
 use Rattle.trace.specs.declared.feeding.Fed.TheVariants as fed
 use Rattle.reduce_ops.specs.Operators.{value_of}
 use Rattle.prefix_scan.specs.Scans.{fold_at, scan_at}
-use Rattle.prefix_walks.specs.Pieces.{elements}
+use Rattle.prefix_walks.specs.Pieces.{after, elements}
 use Rattle.prefix_walks.specs.Scans.{all_items, items_of}
-use Rattle.prefix_walks.specs.Spans.{after}
 use Rattle.prefix_walks.proofs.FeedLemmas.{fed_none, fed_both, fed_stopped}
 use Rattle.prefix_walks.proofs.ScanLemmas.{next_scanned, size_step_below}
 use Rattle.prefix_walks.proofs.scanned_pieces.feed_from.Goals as goal

@@ -2,7 +2,8 @@ use Rattle.std.proofs.Common.{subst, sym, ◌∙◌}
 use Rattle.trace.specs.declared.item.End.TheVariants as end
 use Rattle.trace.specs.Trace.{trace, append}
 use Rattle.trace.proofs.JoinLemmas.{append_grouped}
-use Rattle.job_plan.specs.Parts.{EndsFor, end_in}
+use Rattle.job_plan.specs.Parts.{EndsFor}
+use Rattle.job_routes.specs.Legs.{end_in}
 use Rattle.job_plan.proofs.PartLemmas.{settled}
 use Rattle.job_plan.proofs.closing.PartSinkClosing.close.Goals as goal
 

@@ -3,7 +3,7 @@ use Rattle.std.proofs.lemmas.Int.{to_z-of_z}
 use Rattle.reduce_ops.specs.Folds.{fold_from, fold_items, reduced, reduced_from}
 use Rattle.reduce_ops.specs.Operators.{value_of}
 use Rattle.prefix_walks.specs.Batches.{counted_as}
-use Rattle.job_plan.specs.Plans.{folded}
+use Rattle.job_routes.specs.Legs.{folded}
 use Rattle.job_meaning.specs.Walks.{unless_fault}
 use Rattle.job_meaning.specs.declared.answer.Answer.TheVariants as answer
 use Rattle.job_plan.proofs.PartLemmas.{as_counted, number_of, number_fault, optional_of, optional_fault}

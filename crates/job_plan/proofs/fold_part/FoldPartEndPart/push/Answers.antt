@@ -2,7 +2,7 @@ use Rattle.std.proofs.Common.{[], ◌∷◌, subst}
 use Rattle.trace.specs.declared.item.End.TheVariants as end
 use Rattle.trace.specs.Trace.{Trace, trace, append}
 use Rattle.reduce_ops.specs.Parts.{StandsFor}
-use Rattle.job_plan.specs.Parts.{end_in}
+use Rattle.job_routes.specs.Legs.{end_in}
 use Rattle.job_plan.proofs.PartLemmas.{as_counted, one_counted, fold_goes_on}
 use Rattle.job_plan.proofs.fold_part.FoldPartEndPart.push.Goals as goal
 

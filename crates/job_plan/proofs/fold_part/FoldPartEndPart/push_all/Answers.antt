@@ -1,7 +1,7 @@
 use Rattle.std.proofs.Common.{◌∙◌}
 use Rattle.trace.specs.declared.item.End.TheVariants as end
 use Rattle.trace.specs.Trace.{trace}
-use Rattle.job_plan.specs.Parts.{end_in}
+use Rattle.job_routes.specs.Legs.{end_in}
 use Rattle.job_plan.proofs.PartLemmas.{as_counted, fold_goes_on}
 use Rattle.job_plan.proofs.fold_part.FoldPartEndPart.push_all.Goals as goal
 

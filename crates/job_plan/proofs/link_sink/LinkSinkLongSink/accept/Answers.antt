@@ -5,9 +5,8 @@ use Rattle.trace.specs.declared.sink.Flow.{Flow}
 use Rattle.slice_ops.specs.Rests.{rest_of}
 use Rattle.slice_ops.specs.Slices.{AbstractSlice}
 use Rattle.job_plan.specs.declared.link_sink.Passage.{Passage}
-use Rattle.job_plan.specs.Links.{line_in}
-use Rattle.job_plan.specs.Passages.{HasPassed}
-use Rattle.job_plan.specs.Plans.{AbstractSegment}
+use Rattle.job_plan.specs.Passages.{line_in, HasPassed}
+use Rattle.job_routes.specs.Legs.{AbstractSegment}
 use Rattle.job_plan.proofs.link_sink.LinkSinkLongSink.accept.Goals as goal
 
 passed_as : {S : Type 0} (h : S → List Item → Type 0) (f : S → Flow) (b : AbstractSlice) (n m : ℕ) (g k : AbstractSegment) (u v : Numbers) → n ≡ m → g ≡ k → u ≡ v → (r : AbstractSlice) (p : Passage) (s : S) (xs : List Item)

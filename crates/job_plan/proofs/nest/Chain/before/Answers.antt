@@ -1,10 +1,9 @@
 use Rattle.std.proofs.Common.{List, sym, ap, ◌∙◌}
 use Rattle.batch_eval.specs.Pipelines.{piped}
 use Rattle.slice_ops.specs.Slices.{slice_of, sliced}
-use Rattle.job_plan.specs.declared.leg.Link.{Link}
-use Rattle.job_plan.specs.Parts.{links_in, number_after}
-use Rattle.job_plan.specs.Plans.{linked}
-use Rattle.job_plan.proofs.LinkLemmas.{last_linked}
+use Rattle.job_routes.specs.declared.leg.Link.{Link}
+use Rattle.job_routes.specs.Legs.{links_in, number_after, linked}
+use Rattle.job_routes.proofs.LinkLemmas.{last_linked}
 use Rattle.job_plan.proofs.nest.Chain.before.Goals as goal
 
 pub returns-in-Some-clause-walk : goal.returns-in-Some-clause-walk

@@ -1,6 +1,6 @@
 use Rattle.slice_ops.specs.Slices.{slice_of}
-use Rattle.job_plan.specs.Links.{line_in}
-use Rattle.job_plan.specs.Parts.{number_after}
+use Rattle.job_plan.specs.Passages.{line_in}
+use Rattle.job_routes.specs.Legs.{number_after}
 use Rattle.job_plan.proofs.nest.InnerNest.feed.Given as goal
 
 abbrev pub ghosts-feed_link : goal.ghosts-feed_link

@@ -3,8 +3,8 @@ use Rattle.batch_eval.specs.Pipelines.{piped}
 use Rattle.lambda_values.specs.Earlier.{Numbers}
 use Rattle.slice_ops.specs.Slices.{slice_of, sliced}
 use Rattle.trace.specs.Trace.{Trace}
-use Rattle.job_plan.specs.Parts.{links_in, number_after, walk_in}
-use Rattle.job_plan.specs.Plans.{linked}
+use Rattle.job_routes.specs.Legs.{links_in, number_after, linked}
+use Rattle.job_plan.specs.Parts.{walk_in}
 use Rattle.job_plan.proofs.PassageLemmas.{if_ok_map}
 use Rattle.job_plan.proofs.nest.NextNest.feed.Goals as goal
 

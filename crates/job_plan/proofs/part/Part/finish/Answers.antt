@@ -1,7 +1,7 @@
 use Rattle.std.proofs.Common.{subst}
 use Rattle.job_plan.specs.declared.part.Part.{Part}
 use Rattle.job_plan.specs.Parts.{StandsFor}
-use Rattle.job_plan.specs.Plans.{walk_of, last_stage}
+use Rattle.job_routes.specs.Legs.{walk_of, last_stage}
 use Rattle.job_plan.proofs.PartLemmas.{array_ends}
 use Rattle.job_plan.proofs.part.Part.finish.Goals as goal
 

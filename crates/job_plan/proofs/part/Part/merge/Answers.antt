@@ -2,7 +2,7 @@ use Rattle.lambda_values.specs.Earlier.{Numbers}
 use Rattle.trace.specs.Trace.{Trace, append}
 use Rattle.job_plan.specs.declared.part.Part.{Part}
 use Rattle.job_plan.specs.Parts.{EndsFor, StandsFor}
-use Rattle.job_plan.specs.Plans.{AbstractEnd, AbstractSegment, walk_of, last_stage}
+use Rattle.job_routes.specs.Legs.{AbstractEnd, AbstractSegment, walk_of, last_stage}
 use Rattle.job_plan.proofs.PartLemmas.{on_walks}
 use Rattle.job_plan.proofs.PassageLemmas.{if_ok_map}
 use Rattle.job_plan.proofs.part.Part.merge.Goals as goal

@@ -1,8 +1,9 @@
 use Rattle.std.proofs.Common.{sym, subst}
 use Rattle.trace.specs.Trace.{nothing}
-use Rattle.job_plan.specs.declared.ends.SegmentEnd.{SegmentEnd}
+use Rattle.job_routes.specs.declared.ends.SegmentEnd.{SegmentEnd}
 use Rattle.job_plan.specs.declared.part.Part.TheVariants as part
-use Rattle.job_plan.specs.Parts.{EndsFor, end_in, number_after}
+use Rattle.job_plan.specs.Parts.{EndsFor}
+use Rattle.job_routes.specs.Legs.{end_in, number_after}
 use Rattle.job_plan.proofs.part.Part.none.Goals as goal
 
 pub returns-in-Find-clause-stands : goal.returns-in-Find-clause-stands

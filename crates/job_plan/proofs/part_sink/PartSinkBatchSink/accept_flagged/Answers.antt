@@ -3,7 +3,8 @@ use Rattle.trace.specs.Trace.{Trace}
 use Rattle.batch_eval.specs.Batches.{flagged_items, holds}
 use Rattle.batch_eval.proofs.FlaggedLemmas.{values_flagged}
 use Rattle.job_plan.specs.declared.part.Part.{Part}
-use Rattle.job_plan.specs.Parts.{HasTaken, end_in}
+use Rattle.job_plan.specs.Parts.{HasTaken}
+use Rattle.job_routes.specs.Legs.{end_in}
 use Rattle.job_plan.proofs.WalkLemmas.{taken_on}
 use Rattle.job_plan.proofs.part_sink.PartSinkBatchSink.accept_flagged.Goals as goal
 

@@ -1,7 +1,8 @@
 use Rattle.std.proofs.Common.{◌≡◌, List, sym, ap}
 use Rattle.trace.specs.declared.item.Item.{Item}
 use Rattle.job_plan.specs.declared.part_sink.PartSink.{PartSink}
-use Rattle.job_plan.specs.Parts.{HasTaken, end_in}
+use Rattle.job_plan.specs.Parts.{HasTaken}
+use Rattle.job_routes.specs.Legs.{end_in}
 use Rattle.job_plan.proofs.WalkLemmas.{fed_as, taken_as}
 use Rattle.job_plan.proofs.part_sink.PartSinkBatchSink.accept_lanes.Goals as goal
 

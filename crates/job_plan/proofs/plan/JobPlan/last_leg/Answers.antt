@@ -1,5 +1,5 @@
 use Rattle.std.proofs.Common.{◌≡◌, length, sym, ◌∙◌, rules}
-use Rattle.job_plan.proofs.LinkLemmas.{length_legs}
+use Rattle.job_routes.proofs.LinkLemmas.{length_legs}
 use Rattle.job_plan.proofs.plan.JobPlan.last_leg.Goals as goal
 
 pub returns : goal.returns

@@ -1,6 +1,6 @@
 use Rattle.std.proofs.Common.{◌<◌, ◌≤◌, length, rules}
-use Rattle.job_plan.specs.Parts.{leg_in}
-use Rattle.job_plan.proofs.LinkLemmas.{leg_after, leg_found}
+use Rattle.job_routes.specs.Legs.{leg_in}
+use Rattle.job_routes.proofs.LinkLemmas.{leg_after, leg_found}
 use Rattle.job_plan.proofs.plan.JobPlan.leg.Goals as goal
 
 pub returns-then-number-len : goal.returns-then-number-len

@@ -4,12 +4,11 @@ use Rattle.std.specs.Vec.Iter.{into_iter_items, into_iter_len}
 use Rattle.job_language.specs.declared.job.Job.{Job}
 use Rattle.job_language.specs.Jobs.{AbstractJob, job_of, jobs_of}
 use Rattle.job_plan.specs.declared.plan.JobPlan.{JobPlan}
-use Rattle.job_plan.specs.Building.{AreRoutes, IsRoute}
-use Rattle.job_plan.specs.Parts.{plan_in, plan_names, plans_in}
-use Rattle.job_plan.specs.Plans.{AbstractPlan}
+use Rattle.job_plan.specs.Plans.{AreRoutes, IsRoute, plan_in, plan_names, plans_in, AbstractPlan}
 use Rattle.job_plan.proofs.MeaningLemmas.{planned, route_names, routes_on}
 use Rattle.job_plan.proofs.NameLemmas.{plan_names_more}
-use Rattle.job_plan.proofs.PartLemmas.{no_items, plans_more}
+use Rattle.job_plan.proofs.PartLemmas.{plans_more}
+use Rattle.job_routes.proofs.RouteLemmas.{no_items}
 use Rattle.job_plan.proofs.plan.Plan.of.Goals.{After-lent_arrays}
 use Rattle.job_plan.proofs.plan.Plan.of.Goals as goal
 

@@ -1,9 +1,7 @@
 use Rattle.std.proofs.Common.{◌≡◌, List, [], ◌++◌, length}
 use Rattle.std.specs.Vec.Iter.{into_iter_items, into_iter_len}
 use Rattle.job_language.specs.Jobs.{jobs_of}
-use Rattle.job_plan.specs.Building.{AreRoutes}
-use Rattle.job_plan.specs.Parts.{plan_names, plans_in}
-use Rattle.job_plan.specs.Plans.{AbstractPlan}
+use Rattle.job_plan.specs.Plans.{AreRoutes, plan_names, plans_in, AbstractPlan}
 use Rattle.job_plan.proofs.plan.Plan.of.Given as goal
 
 abbrev pub invariant-loop-job : goal.invariant-loop-job

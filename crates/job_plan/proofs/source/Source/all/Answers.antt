@@ -1,7 +1,7 @@
 use Rattle.std.proofs.Common.{◌∙◌, arith}
 use Rattle.job_plan.specs.Bases.{base_walk}
-use Rattle.job_plan.specs.Plans.{windowed}
-use Rattle.job_plan.proofs.WindowLemmas.{all_positions}
+use Rattle.job_routes.specs.Legs.{windowed}
+use Rattle.job_routes.proofs.WindowLemmas.{all_positions}
 use Rattle.job_plan.proofs.source.Source.all.Goals as goal
 
 pub invariant_of-result : goal.invariant_of-result

@@ -1,6 +1,6 @@
 use Rattle.std.proofs.Common.{ℕ, ◌≡◌, ◌∙◌, ap, sym, subst, IfOk, Ok, Result}
 use Rattle.job_meaning.specs.declared.answer.Answer.{Answer}
-use Rattle.job_plan.specs.Parts.{plan_in, plans_in}
+use Rattle.job_plan.specs.Plans.{plan_in, plans_in}
 use Rattle.job_table.specs.PlanSegments.{PartStands, answer_of, chain_at, last_leg, size_at}
 use Rattle.job_table.proofs.PlannedAnswers.{answered, legs_there}
 use Rattle.job_table.proofs.plan_segments.PlanJobsJobSegments.answer.Goals as goal

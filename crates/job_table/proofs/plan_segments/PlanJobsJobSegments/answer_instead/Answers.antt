@@ -1,8 +1,8 @@
 use Rattle.std.proofs.Common.{◌≡◌, ◌∙◌, ap, sym, Option, Some, None}
 use Rattle.std.specs.Option.{option_map}
-use Rattle.job_plan.specs.declared.fallback.Fallback.{Fallback}
-use Rattle.job_plan.specs.Parts.{fallback_in, plans_in}
-use Rattle.job_plan.specs.Plans.{AbstractPlan}
+use Rattle.job_routes.specs.declared.fallback.Fallback.{Fallback}
+use Rattle.job_plan.specs.Plans.{plans_in, AbstractPlan}
+use Rattle.job_routes.specs.Legs.{fallback_in}
 use Rattle.job_table.specs.PlanSegments.{plan_at}
 use Rattle.job_table.proofs.PlanFaults.{caught_answer, nothing_caught}
 use Rattle.job_table.proofs.plan_segments.PlanJobsJobSegments.answer_instead.Goals as goal

@@ -1,5 +1,5 @@
 use Rattle.std.proofs.Common.{◌≡◌, ◌∙◌, true, false, sym}
-use Rattle.job_plan.specs.Parts.{plan_in, plans_in}
+use Rattle.job_plan.specs.Plans.{plan_in, plans_in}
 use Rattle.job_table.proofs.PlanFaults.{catches_it, caught_there}
 use Rattle.job_table.proofs.plan_segments.PlanJobsJobSegments.fault.Goals as goal
 

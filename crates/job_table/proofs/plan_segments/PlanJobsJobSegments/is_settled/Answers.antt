@@ -1,5 +1,5 @@
 use Rattle.std.proofs.Common.{◌∙◌, sym}
-use Rattle.job_plan.specs.Parts.{plans_in}
+use Rattle.job_plan.specs.Plans.{plans_in}
 use Rattle.job_table.specs.PlanSegments.{chain_at}
 use Rattle.job_plan.proofs.PartLemmas.{settled_there}
 use Rattle.job_table.proofs.PlanParts.{part_decides}

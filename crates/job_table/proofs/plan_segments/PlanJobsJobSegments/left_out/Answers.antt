@@ -1,8 +1,9 @@
 use Rattle.std.proofs.Common.{◌∙◌, ap, subst}
 use Rattle.lambda_values.specs.Earlier.{Numbers}
 use Rattle.trace.specs.Trace.{nothing}
-use Rattle.job_plan.specs.Parts.{plans_in, StandsFor}
-use Rattle.job_plan.specs.Plans.{AbstractLeg, AbstractPlan, leg_at}
+use Rattle.job_plan.specs.Plans.{plans_in, AbstractPlan}
+use Rattle.job_plan.specs.Parts.{StandsFor}
+use Rattle.job_routes.specs.Legs.{AbstractLeg, leg_at}
 use Rattle.job_table.specs.PlanSegments.{chain_at}
 use Rattle.job_table.proofs.PlanParts.{left_stands}
 use Rattle.job_table.proofs.plan_segments.PlanJobsJobSegments.left_out.Goals as goal

@@ -1,4 +1,4 @@
-use Rattle.job_plan.specs.Parts.{plans_in}
+use Rattle.job_plan.specs.Plans.{plans_in}
 use Rattle.job_table.specs.PlanSegments.{chain_at}
 use Rattle.job_table.proofs.PlanParts.{merged}
 use Rattle.job_table.proofs.plan_segments.PlanJobsJobSegments.merge.Goals as goal

@@ -1,6 +1,7 @@
 use Rattle.std.proofs.Common.{◌≡◌, ◌∙◌, ◌+◌, ap, sym}
-use Rattle.job_plan.specs.Parts.{leg_in, plan_in, plans_in, walk_in}
-use Rattle.job_plan.specs.Plans.{leg_at, leg_walk}
+use Rattle.job_routes.specs.Legs.{leg_in, leg_at, leg_walk}
+use Rattle.job_plan.specs.Plans.{plan_in, plans_in}
+use Rattle.job_plan.specs.Parts.{walk_in}
 use Rattle.job_table.specs.PlanSegments.{chain_at, given_at, positions_of, walk_size}
 use Rattle.job_table.proofs.PlannedAnswers.{legs_there}
 use Rattle.job_table.proofs.plan_segments.PlanJobsJobSegments.next_source.Goals as goal

@@ -1,5 +1,5 @@
 use Rattle.std.proofs.Common.{◌<◌, arith}
-use Rattle.job_plan.specs.Parts.{plans_in}
+use Rattle.job_plan.specs.Plans.{plans_in}
 use Rattle.job_table.proofs.PlannedAnswers.{answer_before}
 use Rattle.job_table.proofs.planned.PlanJobs.named_answer.Goals as goal
 

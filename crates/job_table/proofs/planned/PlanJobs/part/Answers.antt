@@ -1,6 +1,6 @@
 use Rattle.std.proofs.Common.{◌∙◌, ap, sym}
 use Rattle.job_language.specs.Jobs.{sources_of}
-use Rattle.job_plan.specs.Parts.{plan_in, plans_in}
+use Rattle.job_plan.specs.Plans.{jobs_at, plan_in, plans_in}
 use Rattle.job_table.specs.PlanSegments.{answers_before, chain_at}
 use Rattle.job_table.proofs.PlannedAnswers.{legs_there, put_walk}
 use Rattle.job_table.proofs.planned.PlanJobs.part.Goals as goal
@@ -27,6 +27,6 @@ returns-in-None-2-clause-stands g c =
     let job = c.args.piece.job in
     let p = plan_in c.job-plan.result.now in
     let first = rw c.in-None-2.is at c.requires.first in
-    let none = ap sources_of c.deref-in-None-2.ensures.value ∙ sym (c.takes_arrays.ensures c.if-takes_arrays.false (answers_before plans job) p.named) in
+    let none = ap sources_of c.deref-in-None-2.ensures.value ∙ sym (c.takes_arrays.ensures c.if-takes_arrays.false (jobs_at (answers_before plans job) p.named)) in
     c.walked_piece-in-None-2.ensures.stands (chain_at plans job) (legs_there plans job p c.job-plan.ensures) (sym c.requires.given.1)
     (c.of_sources-source.ensures ∙ put_walk plans job p c.job-plan.ensures c.args.piece.segment (sources_of c.deref-in-None-2.result.now) first none) c.requires.piece.within c.requires.all c.requires.stop

@@ -1,6 +1,5 @@
 use Rattle.std.proofs.Common.{◌≡◌, ◌+◌, ℕ, Option, Some, ap, ◌∙◌, rules}
-use Rattle.prefix_walks.specs.Pieces.{elements}
-use Rattle.prefix_walks.specs.Spans.{earlier}
+use Rattle.prefix_walks.specs.Pieces.{earlier, elements}
 use Rattle.prefix_walks.proofs.WindowPositions.{take_within}
 use Rattle.prefix_walks.proofs.window.Window.limited.Goals as goal
 

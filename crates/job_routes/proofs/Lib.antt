@@ -1,0 +1,6 @@
+-- The lemmas of this crate; the first line of each file says what they are about.
+pub mod BuiltLemmas
+pub mod LinkLemmas
+pub mod MapLemmas
+pub mod RouteLemmas
+pub mod WindowLemmas

@@ -1,0 +1,197 @@
+-- Design: the legs of a job.
+use Rattle.std.specs.Prelude.{ℕ, zero, suc, ℤ, pos, Bool, true, false, ◌+◌, List, [], ◌∷◌, length, map as each_of, Option, Some, None}
+use Rattle.lambda_values.specs.Earlier.{Numbers}
+use Rattle.trace.specs.declared.item.Item.{Item}
+use Rattle.trace.specs.Stages.{AbstractStage, pipe, stages_of}
+use Rattle.trace.specs.Trace.{Trace, nothing, trace}
+use Rattle.reduce_ops.specs.declared.op.Op.{Op}
+use Rattle.reduce_ops.specs.declared.op.Op.TheVariants as op
+use Rattle.reduce_ops.specs.ExactSums.{exact_sum as exactly_summed}
+use Rattle.reduce_ops.specs.Folds.{fold_from, fold_items}
+use Rattle.reduce_ops.specs.Operators.{value_of}
+use Rattle.slice_ops.specs.Slices.{AbstractSlice, slice_of, sliced}
+use Rattle.prefix_scan.specs.Prefixes.{Range, prefixed}
+use Rattle.prefix_walks.specs.Batches.{counted_as}
+use Rattle.prefix_walks.specs.Pieces.{elements}
+use Rattle.find_ops.specs.Finds.{Find, find_answer, find_of}
+use Rattle.job_language.specs.Jobs.{AbstractTerminal, sum, count, min, max, to_array, reduce, reduce_from, find, exact_sum}
+use Rattle.job_meaning.specs.declared.answer.Answer.{Answer}
+use Rattle.job_meaning.specs.declared.answer.Answer.TheVariants as answer
+use Rattle.job_routes.specs.declared.outcome.Outcome.{Outcome}
+use Rattle.job_routes.specs.declared.outcome.Outcome.TheVariants as outcome
+use Rattle.job_meaning.specs.Walks.{exact_answer, found_answer, unless_fault}
+use Rattle.job_routes.specs.declared.fallback.Fallback.{Fallback}
+use Rattle.job_routes.specs.declared.fallback.Fallback.TheVariants as fallback
+use Rattle.job_routes.specs.declared.ends.SegmentEnd.{SegmentEnd}
+use Rattle.job_routes.specs.declared.ends.SegmentEnd.TheVariants as ends
+use Rattle.job_routes.specs.declared.numbered_stages.NumberedStages.{NumberedStages}
+use Rattle.job_routes.specs.declared.segment.Segment.{Segment}
+use Rattle.job_routes.specs.declared.leg.Leg.{Leg}
+use Rattle.job_routes.specs.declared.leg.Link.{Link}
+
+-- the end of a segment: a fold (its operator, its start, and whether it counts), a find or a match, the values, an exact
+-- sum, or a prefix (its operator and its range)
+pub data AbstractEnd : Type 0 where
+  folding : Op → Option ℤ → Bool → AbstractEnd
+  finding : Find → AbstractEnd
+  collecting : AbstractEnd
+  exactly : AbstractEnd
+  scanning : Op → Range → AbstractEnd
+
+-- stages that look at one item at a time, the first one with this number, and what ends them
+pub record AbstractSegment : Type 0 where
+  pub first : ℕ
+  pub stages : List AbstractStage
+  pub ending : AbstractEnd
+
+-- stages that look at one item at a time, the first one with this number, and a slice after them
+pub record AbstractLink : Type 0 where
+  pub first : ℕ
+  pub stages : List AbstractStage
+  pub slice : AbstractSlice
+
+-- the positions of a walk that are gone over, from one on and up to another; slices that they go through one after the
+-- other; and the segment after them
+pub record AbstractLeg : Type 0 where
+  pub from : ℕ
+  pub to : Option ℕ
+  pub links : List AbstractLink
+  pub last : AbstractSegment
+
+-- legs of which each goes over the walk that the one before it gives: those that end in prefixes, and the last one, which
+-- gives the answer
+pub record AbstractLegs : Type 0 where
+  pub scans : List AbstractLeg
+  pub last : AbstractLeg
+
+-- a terminal as the end of a segment
+abbrev pub end_of : AbstractTerminal → AbstractEnd
+end_of sum = folding op.Sum (Some (pos 0)) false
+end_of count = folding op.Sum (Some (pos 0)) true
+end_of min = folding op.Min None false
+end_of max = folding op.Max None false
+end_of to_array = collecting
+end_of exact_sum = exactly
+end_of (reduce f) = folding f None false
+end_of (reduce_from a f) = folding f (Some a) false
+end_of (find d) = finding d
+
+-- the fold of items: a number if it has a start, else an optional
+abbrev pub folded : Op → Option ℤ → List Item → Answer
+folded f (Some a) xs = answer.Number (fold_from (value_of f) a xs)
+folded f None xs = answer.Optional (fold_items (value_of f) xs)
+
+-- what an end, the stage with this number, makes of a walk: a walk, or the answer of the job
+abbrev pub ended : AbstractEnd → ℕ → Numbers → Trace → Outcome
+ended (folding f a counts) n env t = outcome.Answer (unless_fault t.ending (folded f a (counted_as counts t.items)))
+ended (finding d) n env t = outcome.Answer (found_answer (find_answer d n env t))
+ended (scanning f r) n env t = outcome.Source (prefixed (value_of f) r n t)
+ended exactly n env t = outcome.Answer (exact_answer (exactly_summed n t))
+ended collecting n env t = outcome.Answer (unless_fault t.ending (answer.Array (each_of (λ (x : Item). x.value) t.items)))
+
+-- the walk of a segment's source through its stages
+abbrev pub walk_of : AbstractSegment → Numbers → Trace → Trace
+walk_of s env t = pipe s.first s.stages env t
+
+-- the number of the stage that ends a segment
+abbrev pub last_stage : AbstractSegment → ℕ
+last_stage s = s.first + length s.stages
+
+-- what a segment makes of its source
+abbrev pub outcome_of : AbstractSegment → Numbers → Trace → Outcome
+outcome_of s env t = ended s.ending (last_stage s) env (walk_of s env t)
+
+-- what a walk becomes in a link, and in several ones, one after the other
+abbrev pub link_walk : AbstractLink → Numbers → Trace → Trace
+link_walk l env t = sliced l.slice (l.first + length l.stages) env (pipe l.first l.stages env t)
+
+abbrev pub linked : List AbstractLink → Numbers → Trace → Trace
+linked [] env t = t
+linked (l ∷ ls) env t = linked ls env (link_walk l env t)
+
+-- whether there is a slice among these
+abbrev pub is_linked : List AbstractLink → Bool
+is_linked [] = false
+is_linked (l ∷ ls) = true
+
+-- the items of a walk at these positions, with its end
+abbrev pub windowed : ℕ → Option ℕ → Trace → Trace
+windowed from to t = trace (elements from to t.items) t.ending
+
+-- what a leg goes over of a walk
+abbrev pub leg_walk : AbstractLeg → Trace → Trace
+leg_walk l t = windowed l.from l.to t
+
+-- what a leg makes of a walk
+abbrev pub leg_outcome : AbstractLeg → Numbers → Trace → Outcome
+leg_outcome l env t = outcome_of l.last env (linked l.links env (leg_walk l t))
+
+-- the walk that a segment gives; one that gives an answer gives none
+abbrev pub given_walk : Outcome → Trace
+given_walk (outcome.Source t) = t
+given_walk (outcome.Answer a) = nothing
+
+-- the answer that a segment gives; of one that gives a walk it is 0
+abbrev pub given_answer : Outcome → Answer
+given_answer (outcome.Source t) = answer.Number (pos 0)
+given_answer (outcome.Answer a) = a
+
+-- what legs make of a walk, one after the other
+abbrev pub scanned : List AbstractLeg → Numbers → Trace → Trace
+scanned [] env t = t
+scanned (l ∷ ls) env t = scanned ls env (given_walk (leg_outcome l env t))
+
+-- the leg with this number, from 0; a number after the last one's is the last one's
+abbrev pub leg_among : ℕ → List AbstractLeg → AbstractLeg → AbstractLeg
+leg_among k [] last = last
+leg_among zero (l ∷ ls) last = l
+leg_among (suc k) (l ∷ ls) last = leg_among k ls last
+
+abbrev pub leg_at : ℕ → AbstractLegs → AbstractLeg
+leg_at k legs = leg_among k legs.scans legs.last
+
+-- the answer of legs
+abbrev pub legs_answer : AbstractLegs → Numbers → Trace → Answer
+legs_answer legs env t = given_answer (leg_outcome legs.last env (scanned legs.scans env t))
+
+-- ---- the legs of the program
+
+-- the end of a segment of the program
+abbrev pub end_in : SegmentEnd → AbstractEnd
+end_in (ends.Fold f) = folding f.op f.start f.counts
+end_in (ends.Find d) = finding (find_of d)
+end_in ends.Array = collecting
+end_in ends.ExactSum = exactly
+end_in (ends.Prefix p) = scanning p.op p.range
+
+-- the number of the stage after stages of the program, and what these make of a walk
+abbrev pub number_after : NumberedStages → ℕ
+number_after s = s.first + length (stages_of s.list.items)
+
+abbrev pub walk_through : NumberedStages → Numbers → Trace → Trace
+walk_through s env t = pipe s.first (stages_of s.list.items) env t
+
+-- a segment of the program
+abbrev pub segment_in : Segment → AbstractSegment
+segment_in s = record { first = s.stages.first; stages = stages_of s.stages.list.items; ending = end_in s.end }
+
+-- a slice of the program with the stages before it, and several
+abbrev pub link_in : Link → AbstractLink
+link_in l = record { first = l.stages.first; stages = stages_of l.stages.list.items; slice = slice_of l.slice }
+
+abbrev pub links_in : List Link → List AbstractLink
+links_in [] = []
+links_in (l ∷ ls) = link_in l ∷ links_in ls
+
+-- a leg of the program, and several
+abbrev pub leg_in : Leg → AbstractLeg
+leg_in l = record { from = l.window.from; to = l.window.to; links = links_in l.links.items; last = segment_in l.last }
+
+abbrev pub legs_in : List Leg → List AbstractLeg
+legs_in [] = []
+legs_in (l ∷ ls) = leg_in l ∷ legs_in ls
+
+-- the answer that a fallback of the program means
+abbrev pub fallback_in : Fallback → Answer
+fallback_in (fallback.Number z) = answer.Number z
+fallback_in (fallback.Optional z) = answer.Optional (Some z)

@@ -1,0 +1,233 @@
+//! The route of a job, built stage by stage. A stage goes to the stages that look at one item at a time, to the
+//! positions that its leg goes over, or to the slices that a walk goes through; a prefix ends a leg.
+
+ghost use Rattle.std.specs.Prelude.{◌≡◌, ◌≤◌, ℕ, suc, List, [], None, length, IfOk, IfSome, OnOk};
+ghost use Rattle.lambda_values.specs.Earlier.{Numbers};
+ghost use Rattle.trace.specs.Stages.{stage_of, through};
+ghost use Rattle.trace.specs.Trace.{Trace};
+ghost use Rattle.reduce_ops.specs.Operators.{value_of};
+ghost use Rattle.prefix_scan.specs.Prefixes.{prefixed};
+ghost use Rattle.slice_ops.specs.Slices.{slice_of, sliced};
+ghost use Rattle.job_language.specs.Jobs.{AbstractPlainSource, job_stage_of, job_stages_of, terminal_of};
+ghost use Rattle.job_meaning.specs.Walks.{after_stage, after_stages, answer_of, source_walk};
+ghost use Rattle.job_routes.specs.Building.{HasNext, IsClean, begun_walk};
+ghost use Rattle.job_routes.specs.Legs.{end_in, leg_in, legs_in, number_after, walk_through};
+ghost use Rattle.job_routes.specs.Legs.{ended, legs_answer, windowed};
+
+use crate::ends::SegmentEnd;
+use crate::leg::{Leg, Link};
+use crate::maps::are_maps;
+use crate::numbered_stages::NumberedStages;
+use crate::segment::Segment;
+use find_ops::FindTerminal;
+use job_language::{JobStage, Terminal};
+use lambda_values::LongExpr;
+use prefix_walks::{Prefix, Window, are_faultless};
+use slice_ops::Slice;
+use std::alloc::Global;
+use std::mem;
+use trace::{NoMemory, Stage};
+
+/// A route as far as it is built: the legs up to prefixes, and the leg that goes on.
+#[derive(Drop)]
+pub(crate) struct Begun {
+    alloc: Global,
+    pub(crate) scans: Vec<Leg>,
+    /// The positions that the leg goes over.
+    pub(crate) window: Window,
+    /// The slices of the leg that don't select positions.
+    pub(crate) links: Vec<Link>,
+    /// The stages after them.
+    pub(crate) stages: NumberedStages,
+}
+
+impl Begun {
+    /// No stages yet.
+    fn none(alloc: Global) -> Begun
+        ensures walk { (env : Numbers) (ss : List AbstractPlainSource) → begun_walk result env ss ≡ source_walk ss }
+        ensures number { number_after result.stages ≡ 1 }
+        ensures few { length result.links.items ≡ 0 }
+    {
+        Begun {
+            alloc,
+            scans: Vec::new(alloc),
+            window: Window::all(),
+            links: Vec::new(alloc),
+            stages: NumberedStages::none(alloc, 1),
+        }
+    }
+
+    /// The positions that are left if a slice selects some of those that the leg goes over: only maps come before it.
+    /// `skip` drops what maps make of items, so none of these may have a fault. `limit(0)` takes the fault of a walk
+    /// away.
+    fn selected(&self, slice: &Slice) -> Option<Window>
+        ensures unlinked { IfSome result (λ _. self.now.links.items ≡ []) }
+        ensures window { IfSome result (λ w. (m : ℕ) (env : Numbers) (t : Trace) → IsClean t
+            → walk_through self.now.stages env (windowed w.from w.to t)
+            ≡ sliced (slice_of slice.now) m env (walk_through self.now.stages env
+            (windowed self.now.window.from self.now.window.to t))) }
+    {
+        if !self.links.is_empty() {
+            return None;
+        }
+        let stages: &[Stage] = &self.stages.list;
+        match slice {
+            Slice::Limit(count) if *count > 0 && are_maps(stages) => self.window.limited(*count),
+            Slice::Skip(count) if are_maps(stages) && are_faultless(stages) => {
+                self.window.skipped(*count)
+            }
+            _ => None,
+        }
+    }
+
+    /// Goes over these positions. The number of the slice that selects them goes to a map that changes nothing, if
+    /// stages come before it.
+    fn select(&mut self, window: Window) -> Result<(), NoMemory>
+        requires few { number_after self.old.stages ≤ 32 }
+        ensures kept { OnOk result ((self.new.scans ≡ self.old.scans) × (self.new.links ≡ self.old.links)) }
+        ensures window { OnOk result (self.new.window ≡ window) }
+        ensures walk { OnOk result ((env : Numbers) (t : Trace)
+            → walk_through self.new.stages env t ≡ walk_through self.old.stages env t) }
+        ensures number { OnOk result (number_after self.new.stages ≡ suc (number_after self.old.stages)) }
+    {
+        self.window = window;
+        if self.stages.list.is_empty() {
+            self.stages.first += 1;
+            return Ok(());
+        }
+        self.stages.push(Stage::Map(LongExpr::Parameter(0)))?;
+        Ok(())
+    }
+
+    /// Adds a slice that a walk goes through.
+    fn link(&mut self, slice: Slice) -> Result<(), NoMemory>
+        requires few { number_after self.old.stages ≤ 32 }
+        ensures { OnOk result (HasNext self.old (sliced (slice_of slice)) self.new) }
+    {
+        let next = self.stages.next() + 1;
+        let stages = mem::replace(&mut self.stages, NumberedStages::none(self.alloc, next));
+        self.links.push(Link { stages, slice })?;
+        Ok(())
+    }
+
+    /// Forgets all stages, but not how many there were.
+    fn forget(&mut self)
+        requires few { number_after self.old.stages ≤ 32 }
+        ensures number { number_after self.new.stages ≡ number_after self.old.stages }
+        ensures few { length self.new.links.items ≡ 0 }
+    {
+        self.stages = NumberedStages::none(self.alloc, self.stages.next());
+        self.links = Vec::new(self.alloc);
+        self.scans = Vec::new(self.alloc);
+    }
+
+    /// Adds a slice. Nothing is walked before `limit(0)`.
+    fn slice(&mut self, slice: Slice) -> Result<(), NoMemory>
+        requires few { number_after self.old.stages ≤ 32 }
+        ensures { OnOk result (HasNext self.old (sliced (slice_of slice)) self.new) }
+    {
+        if let Some(window) = self.selected(&slice) {
+            return self.select(window);
+        }
+        if let Slice::Limit(0) = slice {
+            self.forget();
+        }
+        self.link(slice)
+    }
+
+    /// The leg since the last prefix, with this end; the next one goes over all positions.
+    fn take_leg(&mut self, end: SegmentEnd) -> Leg
+        requires number { number_after self.old.stages ≤ 33 }
+        requires few { length self.old.links.items ≤ 32 }
+        ensures leg { (result.window ≡ self.old.window) × (result.links ≡ self.old.links)
+            × (result.last.stages ≡ self.old.stages) × (result.last.end ≡ end) }
+        ensures none { (self.new.links.items ≡ []) × (self.new.stages.list.items ≡ [])
+            × (self.new.stages.first ≡ suc (number_after self.old.stages))
+            × (self.new.window.from ≡ 0) × (self.new.window.to ≡ None) }
+        ensures kept { self.new.scans ≡ self.old.scans }
+    {
+        let window = mem::replace(&mut self.window, Window::all());
+        let links = mem::replace(&mut self.links, Vec::new(self.alloc));
+        let next = self.stages.next() + 1;
+        let stages = mem::replace(&mut self.stages, NumberedStages::none(self.alloc, next));
+        let last = Segment { stages, end };
+        Leg {
+            window,
+            links,
+            last,
+        }
+    }
+
+    /// Adds a prefix.
+    fn scan(&mut self, prefix: Prefix) -> Result<(), NoMemory>
+        requires few { number_after self.old.stages ≤ 32 }
+        requires links { length self.old.links.items ≤ 32 }
+        ensures { OnOk result
+            (HasNext self.old (λ n env t. prefixed (value_of prefix.op) prefix.range n t) self.new) }
+    {
+        let leg = self.take_leg(SegmentEnd::Prefix(prefix));
+        self.scans.push(leg)?;
+        Ok(())
+    }
+
+    /// Adds a stage that looks at one item at a time.
+    fn item(&mut self, stage: Stage) -> Result<(), NoMemory>
+        requires few { number_after self.old.stages ≤ 32 }
+        ensures { OnOk result (HasNext self.old (λ n env t. through n (stage_of stage) env t) self.new) }
+    {
+        self.stages.push(stage)?;
+        Ok(())
+    }
+
+    /// Adds a stage.
+    fn add(&mut self, stage: JobStage) -> Result<(), NoMemory>
+        requires few { number_after self.old.stages ≤ 32 }
+        requires links { length self.old.links.items ≤ 32 }
+        ensures { OnOk result
+            (HasNext self.old (λ n env t. after_stage n (job_stage_of stage) env t) self.new) }
+    {
+        match stage {
+            JobStage::Item(stage) => self.item(stage),
+            JobStage::Slice(slice) => self.slice(slice),
+            JobStage::Prefix { positions, op } => self.scan(Prefix {
+                op,
+                range: positions,
+            }),
+        }
+    }
+
+    /// The end that is walked for another one: `findFirst` for a fold that keeps the first value, if no fault can come
+    /// after an item.
+    fn end_for(&self, end: SegmentEnd) -> SegmentEnd
+        ensures { (n : ℕ) (env : Numbers) (ss : List AbstractPlainSource)
+            → ended (end_in result) n env (begun_walk self.now env ss)
+            ≡ ended (end_in end) n env (begun_walk self.now env ss) }
+    {
+        if self.links.is_empty() && end.keeps_first() && are_faultless(&self.stages.list) {
+            return SegmentEnd::Find(FindTerminal::First);
+        }
+        end
+    }
+}
+
+/// The legs of a job of these stages and this terminal: those up to prefixes, and the last one.
+pub fn legs_of(
+    alloc: Global,
+    stages: Vec<JobStage>,
+    terminal: Terminal,
+) -> Result<(Vec<Leg>, Leg), NoMemory>
+    requires few { length stages.items ≤ 32 }
+    ensures { IfOk result (λ made. (env : Numbers) (ss : List AbstractPlainSource)
+        → legs_answer (record { scans = legs_in made.0.items; last = leg_in made.1 }) env (source_walk ss)
+        ≡ answer_of (suc (length stages.items)) env (terminal_of terminal)
+        (after_stages 1 (job_stages_of stages.items) env (source_walk ss))) }
+{
+    let end = SegmentEnd::of(terminal);
+    let mut begun = Begun::none(alloc);
+    for stage in stages {
+        begun.add(stage)?;
+    }
+    let walked = begun.end_for(end);
+    let last = begun.take_leg(walked);
+    Ok((begun.scans, last))
+}

@@ -1,0 +1,112 @@
+//! What ends a segment, and all that is asked of it but its parts.
+
+ghost use Rattle.std.specs.Prelude.{◌≡◌, IsTrue, None, false, option_map};
+ghost use Rattle.job_language.specs.Jobs.{terminal_of};
+ghost use Rattle.job_meaning.specs.Walks.{number_as};
+ghost use Rattle.job_routes.specs.Legs.{end_in, end_of, fallback_in, folding};
+
+use crate::fallback::Fallback;
+use find_ops::FindTerminal;
+use job_language::Terminal;
+use lambda_values::BoolExpr;
+use prefix_walks::Prefix;
+use reduce_ops::Op;
+
+/// A fold of the values of a walk.
+#[derive(Clone, Copy)]
+pub struct Fold {
+    pub op: Op,
+    /// What is folded before the first value: the answer is then a number, else an optional.
+    pub start: Option<i64>,
+    /// Whether each value counts as 1.
+    pub counts: bool,
+}
+
+/// What ends a segment.
+#[derive(Drop)]
+pub enum SegmentEnd {
+    /// `sum`, `count`, `min`, `max`, `reduce`.
+    Fold(Fold),
+    /// `findFirst` and the three matches.
+    Find(FindTerminal),
+    /// `toArray`.
+    Array,
+    /// `prefix`.
+    Prefix(Prefix),
+    /// `reduce(0, Math::addExact)`.
+    ExactSum,
+}
+
+impl SegmentEnd {
+    /// A terminal as the end of a segment.
+    pub(crate) fn of(terminal: Terminal) -> SegmentEnd
+        ensures { end_in result ≡ end_of (terminal_of terminal) }
+    {
+        match terminal {
+            Terminal::Sum => folding(Op::Sum, Some(0), false),
+            Terminal::Count => folding(Op::Sum, Some(0), true),
+            Terminal::Min => folding(Op::Min, None, false),
+            Terminal::Max => folding(Op::Max, None, false),
+            Terminal::Reduce(op) => folding(op, None, false),
+            Terminal::ReduceFrom { identity, op } => folding(op, Some(identity), false),
+            Terminal::ToArray => SegmentEnd::Array,
+            Terminal::Find(find) => SegmentEnd::Find(find),
+            Terminal::ExactSum => SegmentEnd::ExactSum,
+        }
+    }
+
+    /// The test that a match asks of items while it takes them.
+    pub fn test(&self) -> Option<&BoolExpr> {
+        match self {
+            SegmentEnd::Find(
+                FindTerminal::AnyMatch(test)
+                | FindTerminal::AllMatch(test)
+                | FindTerminal::NoneMatch(test),
+            ) => Some(test),
+            _ => None,
+        }
+    }
+
+    /// Whether the items of lanes with flags are to be given with their flags: to a fold, which then moves no value,
+    /// and to `findFirst`, which the first flag decides. Either way an end takes equal items.
+    pub fn takes_flags(&self) -> bool {
+        match self {
+            SegmentEnd::Fold(fold) => fold.op.identity().is_some(),
+            SegmentEnd::Find(find) => matches!(find, FindTerminal::First),
+            SegmentEnd::Array | SegmentEnd::Prefix(_) | SegmentEnd::ExactSum => false,
+        }
+    }
+
+    /// Whether it is a fold that keeps the first value, and has no number before it.
+    pub(crate) fn keeps_first(&self) -> bool
+        ensures { IsTrue result → end_in self.now ≡ folding Op.First None false }
+    {
+        match self {
+            SegmentEnd::Fold(fold) => {
+                matches!(fold.op, Op::First) && fold.start.is_none() && !fold.counts
+            }
+            _ => false,
+        }
+    }
+}
+
+/// A fold as the end of a segment.
+fn folding(op: Op, start: Option<i64>, counts: bool) -> SegmentEnd
+    ensures { result ≡ SegmentEnd.Fold (record { op = op; start = start; counts = counts }) }
+{
+    SegmentEnd::Fold(Fold { op, start, counts })
+}
+
+/// The number of `onFault`, in the form in which the terminal gives numbers; none after an array and after a match.
+pub(crate) fn number_as(terminal: &Terminal, number: i64) -> Option<Fallback>
+    ensures { option_map fallback_in result ≡ number_as (terminal_of terminal.now) number }
+{
+    match terminal {
+        Terminal::Sum | Terminal::Count | Terminal::ReduceFrom { .. } | Terminal::ExactSum => {
+            Some(Fallback::Number(number))
+        }
+        Terminal::Min | Terminal::Max | Terminal::Reduce(_) | Terminal::Find(FindTerminal::First) =>
+            Some(Fallback::Optional(number)),
+        Terminal::ToArray | Terminal::Find(_) => None,
+    }
+}

@@ -1,0 +1,66 @@
+//! Stages that look at one item at a time, with their numbers in a job.
+
+ghost use Rattle.std.specs.Prelude.{◌+◌, ◌<◌, ◌^◌, length};
+
+use batch_eval::Pipeline;
+use lambda_values::Env;
+use std::alloc::Global;
+use trace::{NoMemory, Stage};
+
+/// Stages that look at one item at a time, one after another.
+#[derive(Drop)]
+pub struct NumberedStages {
+    /// The number of the first one, or of the next stage if there is none.
+    pub first: u32,
+    pub list: Vec<Stage>,
+    ghost numbered: { first + length list.items < 2 ^ 32 },
+}
+
+impl NumberedStages {
+    ghost use Rattle.std.specs.Prelude.{◌≡◌, ◌≤◌, suc, [], OnOk};
+    ghost use Rattle.lambda_values.specs.Earlier.{Numbers};
+    ghost use Rattle.trace.specs.Stages.{stage_of, through};
+    ghost use Rattle.trace.specs.Trace.{Trace};
+    ghost use Rattle.batch_eval.specs.Pipelines.{piped};
+    ghost use Rattle.job_routes.specs.Legs.{number_after, walk_through};
+
+    /// No stages. The first one to come has this number.
+    pub fn none(alloc: Global, first: u32) -> NumberedStages
+        ensures { (result.first ≡ first) × (result.list.items ≡ []) }
+    {
+        NumberedStages {
+            first,
+            list: Vec::new(alloc),
+        }
+    }
+
+    /// The number of the stage that comes next.
+    pub fn next(&self) -> u32
+        ensures { result ≡ number_after self.now }
+    {
+        self.first + self.list.len() as u32
+    }
+
+    /// Adds a stage.
+    pub(crate) fn push(&mut self, stage: Stage) -> Result<(), NoMemory>
+        requires few { number_after self.old ≤ 32 }
+        ensures walk { OnOk result ((env : Numbers) (t : Trace) → walk_through self.new env t
+            ≡ through (number_after self.old) (stage_of stage) env (walk_through self.old env t)) }
+        ensures number { OnOk result (number_after self.new ≡ suc (number_after self.old)) }
+    {
+        self.list.push(stage)?;
+        Ok(())
+    }
+
+    /// The stages, with these values of the job's names.
+    pub fn pipeline<'a>(&'a self, env: &'a Env) -> Pipeline<'a>
+        ensures walk { (t : Trace) → piped result t ≡ walk_through self.now env.now t }
+        ensures env { result.env.now ≡ env.now }
+    {
+        Pipeline {
+            stages: &self.list,
+            first: self.first,
+            env,
+        }
+    }
+}
