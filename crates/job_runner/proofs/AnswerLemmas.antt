@@ -1,6 +1,6 @@
 -- The answers of several jobs.
 use Rattle.std.proofs.Common.{◌≡◌, ℕ, zero, suc, ◌+◌, ◌<◌, List, [], ◌∷◌, ◌++◌, length, get_or, subst, sym, arith}
-use Rattle.job_runner.specs.Answers.{AreAnswers}
+use Rattle.job_runner.specs.Runs.{AreAnswers}
 
 module _ {A : Type 0} (is_answer : ℕ → A → Type 0) where
   pub more_answers : (job : ℕ) (xs : List A) (a : A) → AreAnswers is_answer job xs → is_answer (job + length xs) a → AreAnswers is_answer job (xs ++ a ∷ [])

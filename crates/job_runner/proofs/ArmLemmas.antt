@@ -181,10 +181,8 @@ module _ {T : Type 0} where
   starts_known jobs start keeps left ss all v count_is is h =
       let at : (j : ℕ) → j < jobs → jobs - 1 - j < length ss = λ j low. omega arith in
       record {
-        starts = record {
-          smaller = λ j i low there. let e = is j in subst (λ n. i < n) (sym e.0) (h.smaller (jobs - 1 - j) i (at j low) (subst (λ l. 0 < count i l) e.1 there));
-          ends = λ j low. subst (λ l. 0 < count 0 l) (sym (is j).1) (h.ends (jobs - 1 - j) (at j low));
-        };
+        smaller = λ j i low there. let e = is j in subst (λ n. i < n) (sym e.0) (h.smaller (jobs - 1 - j) i (at j low) (subst (λ l. 0 < count i l) e.1 there));
+        ends = λ j low. subst (λ l. 0 < count 0 l) (sym (is j).1) (h.ends (jobs - 1 - j) (at j low));
         noted = λ j low. ap (λ n. note_of n v.noted) (is j).0 ∙ h.noted (jobs - 1 - j) (at j low) ∙ ap Some (sym (is j).1);
         noted_sides = λ j low. ap (λ n. note_of n v.noted_sides) (is j).0 ∙ h.noted_sides (jobs - 1 - j) (at j low);
         plain = λ j i low there. (h.no_side (left_slot i), h.no_side (right_slot i));
@@ -212,7 +210,7 @@ module _ {V K T : Type 0} {g : Ghosts K V T} {id : TableId} {jobs : ℕ} {start 
   -- who can arrive at a start node can do so along the path of that node alone
   pub start_path : (job node : ℕ) (seat : Seat V K T g) → job < jobs → node ≡ start job → CanArrive id jobs start keeps job seat → IsPath (node ∷ []) (view_of seat)
   start_path job node seat low is can =
-      let starts = can.knows.starts in
+      let starts = can.knows in
       let some : 0 < start job = starts.smaller job 0 low (starts.ends job low) in (
         subst (λ k. 0 < count k (view_of seat).held) (sym is) can.held,
         (λ k there.

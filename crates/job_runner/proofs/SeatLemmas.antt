@@ -39,7 +39,8 @@ module _ {T : Type 0} {jobs : ℕ} {start : ℕ → ℕ} {keeps : ℕ → List �
   -- a seat with equal notes, and no more sides, knows what this one knows
   pub known_as : (v w : View T) → KnowsStarts jobs start keeps v → w.noted ≡ v.noted → w.noted_sides ≡ v.noted_sides → w.places ≡ v.places → ((k : ℕ) → count k w.sides ≤ count k v.sides) → KnowsStarts jobs start keeps w
   known_as v w h noted noted_sides places few = record {
-    starts = h.starts;
+    smaller = h.smaller;
+    ends = h.ends;
     noted = λ job low. ap (note_of (start job)) noted ∙ h.noted job low;
     noted_sides = λ job low. ap (note_of (start job)) noted_sides ∙ h.noted_sides job low;
     plain = λ job i low there. let p = h.plain job i low there in let a = few (left_slot i) in let b = few (right_slot i) in let pa = p.0 in let pb = p.1 in (omega arith, omega arith);
@@ -49,7 +50,8 @@ module _ {T : Type 0} {jobs : ℕ} {start : ℕ → ℕ} {keeps : ℕ → List �
   -- the halves of a fork know what the seat knew
   pub known_forked : (at : Option (Place T)) (onward : List ℕ) (p : Place T) (v w : View T) → KnowsStarts jobs start keeps v → tree.KnowsTop at onward p v w → tree.Rooted w.places → KnowsStarts jobs start keeps w
   known_forked at onward p v w h k rooted = record {
-    starts = h.starts;
+    smaller = h.smaller;
+    ends = h.ends;
     noted = λ job low. k.still_noted (start job) (keeps job) (h.noted job low);
     noted_sides = λ job low. k.still_noted_sides (start job) [] (h.noted_sides job low);
     plain = λ job i low there.
@@ -58,7 +60,7 @@ module _ {T : Type 0} {jobs : ℕ} {start : ℕ → ℕ} {keeps : ℕ → List �
         let qb = q.1 in
         let a = k.only_own (left_slot i) in
         let b = k.only_own (right_slot i) in
-        let lower = h.starts.smaller job i low there in
+        let lower = h.smaller job i low there in
         let above = k.above (start job) (keeps job) (h.noted job low) in
         let ll = at_else (left_slot i) (left_slot p.node) (λ e. absurd (omega arith)) in
         let lr = at_else (left_slot i) (right_slot p.node) (λ e. absurd (omega arith)) in
@@ -253,7 +255,8 @@ module _ {V K T : Type 0} {g : Ghosts K V T} {id : TableId} {jobs : ℕ} {start 
             omega arith;
         plain_at = λ i there. let p = h.plain_at i there in (sides (left_slot i) ∙ p.0, sides (right_slot i) ∙ p.1);
         knows = record {
-          starts = h.knows.starts;
+          smaller = h.knows.smaller;
+          ends = h.knows.ends;
           noted = λ job low. ap (λ (w : View T). note_of (start job) w.noted) is ∙ first_note (start job) (keeps job) v.noted u.noted (h.knows.noted job low);
           noted_sides = λ job low. ap (λ (w : View T). note_of (start job) w.noted_sides) is ∙ first_note (start job) [] v.noted_sides u.noted_sides (h.knows.noted_sides job low);
           plain = λ job i low there. let p = h.knows.plain job i low there in (sides (left_slot i) ∙ p.0, sides (right_slot i) ∙ p.1);

@@ -1,8 +1,7 @@
 -- Which word belongs to a segment.
 use Rattle.std.proofs.Common.{◌≡◌, ℕ, zero, suc, ◌+◌, ◌-◌, ◌<◌, ◌≤◌, Bool, true, false, cond, nat_lt, le-ltb, lt-ltb, sym, refl, ap, ◌∙◌, subst, arith}
 use Rattle.early_stop.specs.Decisive.{IsDecisive}
-use Rattle.job_runner.specs.Runs.{DecidesIn, RunSpec}
-use Rattle.job_runner.specs.Stops.{pair_from, pair_at, words_from, first_word}
+use Rattle.job_runner.specs.Runs.{DecidesIn, RunSpec, first_word, pair_at, pair_from, words_from}
 
 pick_first : (b : Bool) (p q : ℕ × ℕ) → b ≡ true → cond b p q ≡ p
 pick_first true p q h = refl

@@ -3,5 +3,3 @@ pub mod Runs
 pub mod Cuts
 pub mod Tasks
 pub mod Waits
-pub mod Answers
-pub mod Stops

@@ -1,8 +1,14 @@
--- Condition: what a run is over: its jobs, what their segments give, and what the values that it passes on are.
-use Rattle.std.specs.Prelude.{ℕ}
+-- Condition: what a run is over: its jobs, what their segments give, and what the values that it passes on are; and which
+-- segment each word of early stop is of.
+use Rattle.std.specs.Prelude.{◌≡◌, ℕ, zero, suc, ◌+◌, ◌-◌, nat_lt, if◌then◌else◌, List, [], ◌∷◌, ⊤}
+use Rattle.std.specs.Coded.{×_prop, Unit-prop}
+use Rattle.atomic_table.specs.Seated.{TableId}
 use Rattle.trace.specs.declared.item.Fault.{Fault}
 use Rattle.trace.specs.Trace.{Trace}
+use Rattle.early_stop.specs.declared.cut.Cut.{Cut as StopWords}
 use Rattle.early_stop.specs.Decisive.{Decides}
+use Rattle.job_runner.specs.declared.segments.Begun.{Begun}
+use Rattle.job_runner.specs.declared.segments.Begun.TheVariants.{Walk, Known}
 
 -- The jobs of a run. O is what a segment gives, P a part of it, S what a segment after the first one goes over, A the
 -- answer of a job, and G what a job takes of earlier answers.
@@ -33,3 +39,41 @@ pub record RunSpec (O P S A G : Type 0) : Type 1 where
 -- from this position of a job's segment on, no item can change what the segment gives
 abbrev pub DecidesIn : {O P S A G : Type 0} → RunSpec O P S A G → ℕ → ℕ → ℕ → Type 0
 DecidesIn run job segment c = Decides (run.gives job segment) (run.goes_over job segment) c
+
+-- what a job takes of earlier answers and how many positions its first segment has are known, or its answer is
+abbrev pub IsBegun : {O P S A G : Type 0} → RunSpec O P S A G → ℕ → Begun G A → Type 0
+IsBegun run job (Walk given size) = run.is_given job given × (size ≡ run.size job 0)
+IsBegun run job (Known a) = run.is_answer job a
+
+-- each of these is the answer of its job, the first one of the job with this number
+abbrev pub AreAnswers : {A : Type 0} → (ℕ → A → Type 0) → ℕ → List A → Type 0
+AreAnswers is_answer job [] = ⊤
+AreAnswers is_answer job (a ∷ rest) = is_answer job a × AreAnswers is_answer (suc job) rest
+
+-- no two proofs of that differ
+pub AreAnswers-prop : {O P S A G : Type 0} (run : RunSpec O P S A G) (job : ℕ) (answers : List A) → IsProp (AreAnswers run.is_answer job answers)
+AreAnswers-prop run job [] = Unit-prop
+AreAnswers-prop run job (a ∷ rest) = ×_prop (run.one_answer job a) (AreAnswers-prop run (suc job) rest)
+
+-- ---- words of early stop
+
+-- the table of the words
+abbrev pub stop_id_of : {S O : Type 0} → StopWords S O → TableId
+stop_id_of stops = stops.table.shared.table_id
+
+-- the job and the segment with this number, counted from a job on, of this many jobs
+abbrev pub pair_from : (ℕ → ℕ) → ℕ → ℕ → ℕ → ℕ × ℕ
+pair_from last job zero i = (job, i)
+pair_from last job (suc n) i = if nat_lt (last job) i then pair_from last (suc job) n (i - suc (last job)) else (job, i)
+
+abbrev pub pair_at : (ℕ → ℕ) → ℕ → ℕ → ℕ × ℕ
+pair_at last jobs i = pair_from last 0 jobs i
+
+-- how many segments this many jobs have, counted from a job on
+abbrev pub words_from : (ℕ → ℕ) → ℕ → ℕ → ℕ
+words_from last job zero = 0
+words_from last job (suc n) = suc (last job) + words_from last (suc job) n
+
+-- the number of a job's first segment
+abbrev pub first_word : (ℕ → ℕ) → ℕ → ℕ
+first_word last job = words_from last 0 job

@@ -53,15 +53,11 @@ module _ {T : Type 0} where
     pub smaller : (k i : ℕ) → k < length starts → 0 < count i (kept_at starts k) → i < node_at starts k
     pub ends : (k : ℕ) → k < length starts → 0 < count 0 (kept_at starts k)
 
--- The start nodes of the first jobs, and what they keep: arrivals at smaller nodes, one of them at END.
-pub record AreStarts (jobs : ℕ) (start : ℕ → ℕ) (keeps : ℕ → List ℕ) : Type 0 where
-  pub smaller : (job i : ℕ) → job < jobs → 0 < count i (keeps job) → i < start job
-  pub ends : (job : ℕ) → job < jobs → 0 < count 0 (keeps job)
-
-module _ {T : Type 0} where
-  -- the seat has noted what the start nodes keep, and has no side of a pair at a node at which they keep an arrival
+  -- The seat has noted what the start nodes of the first jobs keep: arrivals at smaller nodes, one of them at END. It
+  -- has no side of a pair at a node at which they keep an arrival.
   pub record KnowsStarts (jobs : ℕ) (start : ℕ → ℕ) (keeps : ℕ → List ℕ) (v : View T) : Type 0 where
-    pub starts : AreStarts jobs start keeps
+    pub smaller : (job i : ℕ) → job < jobs → 0 < count i (keeps job) → i < start job
+    pub ends : (job : ℕ) → job < jobs → 0 < count 0 (keeps job)
     pub noted : (job : ℕ) → job < jobs → note_of (start job) v.noted ≡ Some (keeps job)
     pub noted_sides : (job : ℕ) → job < jobs → note_of (start job) v.noted_sides ≡ Some []
     pub plain : (job i : ℕ) → job < jobs → 0 < count i (keeps job) → IsPlainAt i v

@@ -1,6 +1,6 @@
 //! The answers of earlier jobs.
 ghost use Rattle.std.specs.Prelude.{ℕ, IfSome, [], ◌≡◌};
-ghost use Rattle.job_runner.specs.Answers.{AreAnswers, AreAnswers-prop};
+ghost use Rattle.job_runner.specs.Runs.{AreAnswers, AreAnswers-prop};
 
 use crate::places::{JobPlaces, kept_answer};
 use crate::segments::JobSegments;

@@ -3,7 +3,7 @@ ghost use Rattle.std.specs.Prelude.{◌≡◌, ◌<◌, ◌≤◌, [], length, I
 ghost use Rattle.pending_count.specs.Seats.{table_of, view_of, IsSeatOf};
 ghost use Rattle.early_stop.specs.Seats.{IsSeatOf as IsStopSeatOf, table_of as stop_table_of, segments_of, count_of};
 ghost use Rattle.job_runner.specs.Tasks.{HasStarts};
-ghost use Rattle.job_runner.specs.Stops.{stop_id_of};
+ghost use Rattle.job_runner.specs.Runs.{stop_id_of};
 
 use crate::NoMemory;
 use crate::arming::arm_all;

@@ -1,6 +1,6 @@
 //! The places in which tasks leave sources and answers for others.
 ghost use Rattle.std.specs.Prelude.{◌≡◌, ◌+◌, ◌-◌, ◌^◌, ◌<◌, ◌≤◌, ℕ, length, IfNone, IfOk, IfSome};
-ghost use Rattle.job_runner.specs.Stops.{first_word, pair_at};
+ghost use Rattle.job_runner.specs.Runs.{first_word, pair_at};
 
 use crate::NoMemory;
 use crate::piece::{NextSource, SegmentInput};

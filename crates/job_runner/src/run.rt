@@ -1,9 +1,8 @@
 //! Running all jobs.
 ghost use Rattle.std.specs.Prelude.{◌≡◌, ◌-◌, ◌<◌, ◌≤◌, ℕ, IfOk, length};
 ghost use Rattle.completer_tree.specs.Trees.{table_id_of};
-ghost use Rattle.job_runner.specs.Answers.{AreAnswers};
+ghost use Rattle.job_runner.specs.Runs.{AreAnswers, stop_id_of};
 ghost use Rattle.job_runner.specs.Tasks.{kept_at, node_at};
-ghost use Rattle.job_runner.specs.Stops.{stop_id_of};
 
 use crate::NoMemory;
 use crate::alone::answer_alone;

@@ -1,9 +1,8 @@
 //! What a run is over.
 ghost use Rattle.std.specs.Prelude.{◌≡◌, ◌+◌, ◌^◌, ◌<◌, ◌≤◌, ℕ, true, Some, IfNone, IfOk, IfSome};
 ghost use Rattle.trace.specs.declared.item.Fault.{Fault};
-ghost use Rattle.job_runner.specs.Answers.{IsBegun};
+ghost use Rattle.job_runner.specs.Runs.{DecidesIn, IsBegun, RunSpec};
 ghost use Rattle.job_runner.specs.Cuts.{HasFault, IsPiece, IsPieceOf, Stands};
-ghost use Rattle.job_runner.specs.Runs.{DecidesIn, RunSpec};
 
 use crate::NoMemory;
 use crate::cut::CutPiece;

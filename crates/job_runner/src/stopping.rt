@@ -1,5 +1,5 @@
 //! The words of early stop of a run.
-ghost use Rattle.job_runner.specs.Stops.{pair_at};
+ghost use Rattle.job_runner.specs.Runs.{pair_at};
 
 use crate::segments::JobSegments;
 use early_stop::Cut as StopWords;

@@ -3,8 +3,7 @@ ghost use Rattle.std.specs.Prelude.{◌≡◌, ◌-◌, ◌^◌, ◌<◌, ◌≤
 ghost use Rattle.early_stop.specs.Decisive.{IsDecisive};
 ghost use Rattle.early_stop.specs.Seats.{table_of as stop_table_of, segments_of, count_of};
 ghost use Rattle.job_runner.specs.Cuts.{Stands};
-ghost use Rattle.job_runner.specs.Runs.{DecidesIn};
-ghost use Rattle.job_runner.specs.Stops.{pair_at, stop_id_of};
+ghost use Rattle.job_runner.specs.Runs.{DecidesIn, pair_at, stop_id_of};
 
 use crate::cut::{CutPiece, Merged, SegmentPart, TablePart, side_at};
 use crate::piece::Piece;

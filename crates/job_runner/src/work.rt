@@ -4,7 +4,7 @@ ghost use Rattle.run_settings.specs.SettingsParts.{workers_of};
 ghost use Rattle.pending_count.specs.Seats.{actor_of, view_of};
 ghost use Rattle.completer_tree.specs.Trees.{table_id_of};
 ghost use Rattle.early_stop.specs.Seats.{table_of as stop_table_of, segments_of, count_of};
-ghost use Rattle.job_runner.specs.Stops.{stop_id_of};
+ghost use Rattle.job_runner.specs.Runs.{stop_id_of};
 ghost use Rattle.job_runner.specs.Tasks.{kept_at, node_at};
 
 use crate::NoMemory;

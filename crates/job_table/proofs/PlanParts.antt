@@ -1,5 +1,5 @@
 -- Parts of a leg, from the part of no item to the one for all positions, and the answer that it gives.
-use Rattle.std.proofs.Common.{◌≡◌, ℕ, suc, ◌+◌, ◌-◌, ◌<◌, ◌≤◌, drop, length, Bool, true, false, List, [], ◌∷◌, Option, Some, None, Result, Ok, Err, IfOk, if◌then◌else◌, ◌==◌, ap, sym, subst, ◌∙◌, refl, arith, eq-eqb, ne_eqb, zero, get_or}
+use Rattle.std.proofs.Common.{◌≡◌, ℕ, suc, ◌+◌, ◌-◌, ◌<◌, ◌≤◌, drop, length, take, Bool, true, false, List, [], ◌∷◌, Option, Some, None, Result, Ok, Err, IfOk, if◌then◌else◌, ◌==◌, ap, sym, subst, ◌∙◌, refl, arith, eq-eqb, ne_eqb, zero, get_or}
 use Rattle.trace.specs.Trace.{Trace, append, nothing}
 use Rattle.lambda_values.specs.Earlier.{Numbers}
 use Rattle.job_routes.specs.declared.outcome.Outcome.{Outcome}
@@ -16,7 +16,7 @@ use Rattle.job_plan.proofs.PartLemmas.{other_ends, settled_decides}
 use Rattle.prefix_walks.specs.Pieces.{IsNotAfter, piece_of}
 use Rattle.prefix_walks.proofs.ScanLemmas.{pieces_joined, whole_piece}
 use Rattle.job_routes.proofs.LinkLemmas.{unlinked}
-use Rattle.job_table.specs.PlanSegments.{AbstractChain, PartStands, given_at, gives_at, last_leg, piece_between, positions_of, size_at, source_at, upto, walk_at, walk_size, passed_on, plan_at}
+use Rattle.job_table.specs.PlanSegments.{AbstractChain, PartStands, given_at, gives_at, last_leg, piece_between, size_at, source_at, upto, walk_at, walk_size, plan_at}
 use Rattle.job_plan.specs.declared.plan.JobPlan.{JobPlan}
 
 -- the leg after all that end in prefixes
@@ -25,21 +25,21 @@ last_among [] last = refl
 last_among (l ∷ ls) last = last_among ls last
 
 module _ (env : Numbers) where
-  last_passed : (ls : List AbstractLeg) (t : Trace) → passed_on env (length ls) ls t ≡ scanned ls env t
+  last_passed : (ls : List AbstractLeg) (t : Trace) → scanned (take (length ls) ls) env t ≡ scanned ls env t
   last_passed [] t = refl
   last_passed (l ∷ ls) t = last_passed ls (given_walk (leg_outcome l env t))
 
   -- the answer of legs is the answer of the last one
-  pub answer_there : (legs : AbstractLegs) (t : Trace) → legs_answer legs env t ≡ given_answer (leg_outcome (leg_at (last_leg legs) legs) env (passed_on env (last_leg legs) legs.scans t))
+  pub answer_there : (legs : AbstractLegs) (t : Trace) → legs_answer legs env t ≡ given_answer (leg_outcome (leg_at (last_leg legs) legs) env (scanned (take (last_leg legs) legs.scans) env t))
   answer_there legs t = sym (λ i. given_answer (leg_outcome (last_among legs.scans legs.last i) env (last_passed legs.scans t i)))
 
   -- a leg goes over what the one before it gave
-  among_on : (k : ℕ) (ls : List AbstractLeg) (last : AbstractLeg) (t : Trace) → k < length ls → passed_on env (suc k) ls t ≡ given_walk (leg_outcome (leg_among k ls last) env (passed_on env k ls t))
+  among_on : (k : ℕ) (ls : List AbstractLeg) (last : AbstractLeg) (t : Trace) → k < length ls → scanned (take (suc k) ls) env t ≡ given_walk (leg_outcome (leg_among k ls last) env (scanned (take k ls) env t))
   among_on k [] last t h = absurd (omega arith)
   among_on zero (l ∷ ls) last t h = refl
   among_on (suc k) (l ∷ ls) last t h = among_on k ls last (given_walk (leg_outcome l env t)) (omega arith)
 
-  pub goes_on : (k : ℕ) (legs : AbstractLegs) (t : Trace) → k < last_leg legs → passed_on env (suc k) legs.scans t ≡ given_walk (leg_outcome (leg_at k legs) env (passed_on env k legs.scans t))
+  pub goes_on : (k : ℕ) (legs : AbstractLegs) (t : Trace) → k < last_leg legs → scanned (take (suc k) legs.scans) env t ≡ given_walk (leg_outcome (leg_at k legs) env (scanned (take k legs.scans) env t))
   goes_on k legs t h = among_on k legs.scans legs.last t h
 
 -- a job of the program
@@ -69,17 +69,9 @@ not_after false middle to h = h
 pub size_within : (chain : AbstractChain) (segment : ℕ) → size_at chain segment ≤ length (walk_at chain segment).items
 size_within chain segment = by (leg_at segment chain.legs).links
   where
-    by : (ls : List AbstractLink) → positions_of ls (walk_size (source_at chain segment)) ≤ length (linked ls chain.numbers (source_at chain segment)).items
+    by : (ls : List AbstractLink) → (if is_linked ls then 0 else walk_size (source_at chain segment)) ≤ length (linked ls chain.numbers (source_at chain segment)).items
     by [] = omega arith
     by (l ∷ ls) = omega arith
-
-no_positions : (ls : List AbstractLink) (size : ℕ) → is_linked ls ≡ true → positions_of ls size ≡ 0
-no_positions [] size h = absurd (let z : false ≡ true = h in cc)
-no_positions (l ∷ ls) size h = refl
-
-all_positions : (ls : List AbstractLink) (size : ℕ) → is_linked ls ≡ false → positions_of ls size ≡ size
-all_positions [] size h = refl
-all_positions (l ∷ ls) size h = absurd (let z : true ≡ false = h in cc)
 
 between_joined : (t : Trace) (size from middle to : ℕ) → from < middle → middle < to → to ≤ size → append (piece_between size from middle t) (piece_between size middle to t) ≡ piece_between size from to t
 between_joined t size from middle to l h w =
@@ -167,7 +159,7 @@ all_stands chain segment l (Err e) env w got alone walks h = tt
 -- a piece of a leg that goes through slices is all of it
 pub one_piece : (chain : AbstractChain) (segment from to : ℕ) (l : AbstractLeg) → l ≡ leg_at segment chain.legs → is_linked l.links ≡ true → from ≤ to → to ≤ size_at chain segment → (from ≡ 0) × (to ≡ size_at chain segment)
 one_piece chain segment from to l got linked_so ordered within =
-    let none : size_at chain segment ≡ 0 = ap (λ (k : AbstractLeg). positions_of k.links (walk_size (source_at chain segment))) (sym got) ∙ no_positions l.links (walk_size (source_at chain segment)) linked_so in
+    let none : size_at chain segment ≡ 0 = ap (λ (b : Bool). if b then 0 else walk_size (source_at chain segment)) (ap (λ (k : AbstractLeg). is_linked k.links) (sym got) ∙ linked_so) in
     (omega (arith, none, ordered, within), omega (arith, none, within))
 
 -- the part of a piece that is all of a leg
@@ -192,7 +184,7 @@ piece_stands chain segment from to l w env u decides (Ok p) got plain alone walk
     let at = leg_at segment chain.legs in
     let bare : is_linked at.links ≡ false = ap (λ (k : AbstractLeg). is_linked k.links) (sym got) ∙ plain in
     let over : w ≡ walk_at chain segment = walks ∙ sym (unlinked at.links chain.numbers (source_at chain segment) bare) in
-    let size : walk_size w ≡ size_at chain segment = ap walk_size walks ∙ sym (all_positions at.links (walk_size (source_at chain segment)) bare) in
+    let size : walk_size w ≡ size_at chain segment = ap walk_size walks ∙ sym (ap (λ (b : Bool). if b then 0 else walk_size (source_at chain segment)) bare) in
     let last : u ≡ upto (size_at chain segment) to = ends ∙ ap (λ (n : ℕ). upto n to) size in
     let a = subst (λ (e : Numbers). StandsEnough decides l.last e p from (piece_of from u w)) alone h in
     let b = subst (λ (v : Option ℕ). StandsEnough decides l.last chain.numbers p from (piece_of from v w)) last a in

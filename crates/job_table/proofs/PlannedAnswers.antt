@@ -8,7 +8,7 @@ use Rattle.job_plan.specs.declared.plan.JobPlan.{JobPlan}
 use Rattle.job_meaning.specs.FileAnswers.{EarlierJob, all_put_in, first_unusable, put_in, unless_unusable}
 use Rattle.job_plan.specs.Plans.{AbstractPlan, jobs_at, planned_after, planned_from, planned_meaning, plans_in}
 use Rattle.job_routes.specs.Legs.{legs_answer}
-use Rattle.job_runner.specs.Answers.{AreAnswers}
+use Rattle.job_runner.specs.Runs.{AreAnswers}
 use Rattle.job_table.specs.PlanSegments.{answer_of, answers_before, chain_at, named_at, plan_at, AbstractChain, PartStands, given_at, last_leg, size_at}
 use Rattle.lambda_values.specs.Earlier.{Numbers}
 use Rattle.job_language.specs.declared.job.PlainSource.{PlainSource}

@@ -1,5 +1,5 @@
 -- Condition: the legs of a plan: what each goes over, and what its parts describe; and the plan as what a run is over.
-use Rattle.std.specs.Prelude.{◌≡◌, ℕ, zero, suc, pos, ◌-◌, ◌^◌, min, take, List, [], ◌∷◌, length, Option, Some, None, slice_index_or, if◌then◌else◌, ◌==◌}
+use Rattle.std.specs.Prelude.{◌≡◌, ℕ, pos, ◌-◌, ◌^◌, min, take, List, [], length, Option, Some, None, slice_index_or, if◌then◌else◌, ◌==◌}
 use Rattle.std.specs.Coded.{×_prop}
 use Rattle.std.proofs.Props.{props}
 use base.Stored.{Coded-set, coded_list}
@@ -17,7 +17,7 @@ use Rattle.job_meaning.specs.contracts.answer.Answer as answers
 use Rattle.job_meaning.specs.FileAnswers.{EarlierJob, all_put_in, first_unusable, numbers_of}
 use Rattle.job_meaning.specs.Walks.{source_walk}
 use Rattle.job_routes.specs.declared.outcome.Outcome.{Outcome}
-use Rattle.job_routes.specs.Legs.{AbstractLeg, AbstractLegs, AbstractLink, collecting, given_walk, leg_at, leg_outcome, leg_walk, linked, outcome_of}
+use Rattle.job_routes.specs.Legs.{AbstractLeg, AbstractLegs, collecting, is_linked, leg_at, leg_walk, linked, outcome_of, scanned}
 use Rattle.job_plan.specs.declared.part.Part.{Part}
 use Rattle.job_plan.specs.declared.plan.JobPlan.{JobPlan}
 use Rattle.job_plan.specs.contracts.plan.JobPlan as plans
@@ -69,16 +69,10 @@ chain_at plans job = record {
 abbrev pub last_leg : AbstractLegs → ℕ
 last_leg legs = length legs.scans
 
--- what the leg with this number has positions of, if the first one has positions of this
-abbrev pub passed_on : Numbers → ℕ → List AbstractLeg → Trace → Trace
-passed_on env zero ls t = t
-passed_on env (suc k) [] t = t
-passed_on env (suc k) (l ∷ ls) t = passed_on env k ls (given_walk (leg_outcome l env t))
-
 -- what the leg of a job with this number is given, what it goes over of that, and what comes through its slices to its
 -- last segment
 abbrev pub given_at : AbstractChain → ℕ → Trace
-given_at chain k = passed_on chain.numbers k chain.legs.scans chain.source
+given_at chain k = scanned (take k chain.legs.scans) chain.numbers chain.source
 
 abbrev pub source_at : AbstractChain → ℕ → Trace
 source_at chain k = leg_walk (leg_at k chain.legs) (given_at chain k)
@@ -90,15 +84,13 @@ walk_at chain k = linked (leg_at k chain.legs).links chain.numbers (source_at ch
 abbrev pub walk_size : Trace → ℕ
 walk_size t = min (length t.items) (2 ^ 64 - 1)
 
--- how many positions a walk of this size has for a run, if it goes through these slices: through one it is one piece
--- without positions
-abbrev pub positions_of : List AbstractLink → ℕ → ℕ
-positions_of [] size = size
-positions_of (l ∷ ls) size = 0
+-- how many positions a leg that is given this walk has for a run: with slices it is one piece without positions
+abbrev pub positions_of : AbstractLeg → Trace → ℕ
+positions_of leg t = if is_linked leg.links then 0 else walk_size (leg_walk leg t)
 
 -- how many positions the leg with this number has for a run
 abbrev pub size_at : AbstractChain → ℕ → ℕ
-size_at chain k = positions_of (leg_at k chain.legs).links (walk_size (source_at chain k))
+size_at chain k = positions_of (leg_at k chain.legs) (given_at chain k)
 
 -- no second position, if it is the last one
 abbrev pub upto : ℕ → ℕ → Option ℕ

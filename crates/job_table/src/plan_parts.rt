@@ -2,7 +2,7 @@
 ghost use Rattle.std.specs.Prelude.{◌≡◌, ◌≢◌, ◌+◌, ◌<◌, ◌≤◌, ℕ, false, true};
 ghost use Rattle.std.specs.Prelude.{None, IfNone, IfOk, IfSome};
 ghost use Rattle.early_stop.specs.Decisive.{Decides};
-ghost use Rattle.job_routes.specs.Legs.{leg_in, leg_at, leg_walk, legs_answer};
+ghost use Rattle.job_routes.specs.Legs.{leg_in, leg_at, legs_answer};
 ghost use Rattle.job_plan.specs.Parts.{may_search, walk_in};
 ghost use Rattle.job_plan.specs.Plans.{plan_in};
 ghost use Rattle.prefix_walks.specs.Pieces.{IsNotAfter};
@@ -23,8 +23,7 @@ use trace::End;
 
 /// How many positions a leg has for a run, if it is given this.
 pub(crate) fn positions(leg: &Leg, given: Source) -> u64
-    ensures { result ≡ positions_of (leg_in leg.now).links
-        (walk_size (leg_walk (leg_in leg.now) (walk_in given.entry))) }
+    ensures { result ≡ positions_of (leg_in leg.now) (walk_in given.entry) }
 {
     if leg.streams() {
         0

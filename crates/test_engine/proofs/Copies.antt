@@ -1,7 +1,7 @@
 -- Answers that are lists, one by one and all together.
 use Rattle.std.proofs.Common.{◌≡◌, ℕ, ℤ, suc, ◌+◌, List, [], ◌∷◌, length, map, slice_index_or, ap, sym, ◌∙◌, refl, arith}
 use Rattle.std.specs.Prelude.{Result, Ok, Err, IfOk}
-use Rattle.job_runner.specs.Answers.{AreAnswers}
+use Rattle.job_runner.specs.Runs.{AreAnswers}
 
 pub all_are : {A : Type 0} (items : A → List ℤ) (numbers : ℕ → List ℤ) (job : ℕ) (bs : List A) (xs : List (List ℤ)) → length bs ≡ length xs → ((j : ℕ) → slice_index_or xs j [] ≡ numbers (job + j))
     → AreAnswers (λ j a. items a ≡ numbers j) job bs → map items bs ≡ xs

@@ -2,7 +2,7 @@
 ghost use Rattle.std.specs.Prelude.{◌≡◌, ◌-◌, ℕ, ℤ, List, [], length, IfErr};
 ghost use Rattle.completer_tree.specs.Trees.{table_id_of};
 ghost use Rattle.job_runner.specs.Tasks.{kept_at, node_at};
-ghost use Rattle.job_runner.specs.Stops.{stop_id_of};
+ghost use Rattle.job_runner.specs.Runs.{stop_id_of};
 
 use crate::shown::{columns_of, plan_of};
 use crate::worked::{COLUMNS, FILES};

@@ -1,5 +1,5 @@
 use Rattle.std.proofs.Common.{◌≡◌, ◌<◌, length}
-use Rattle.job_runner.specs.Stops.{first_word}
+use Rattle.job_runner.specs.Runs.{first_word}
 use Rattle.job_runner.proofs.places.empty_places.Given as goal
 
 abbrev pub invariant-loop-job : goal.invariant-loop-job

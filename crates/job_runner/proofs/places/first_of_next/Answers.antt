@@ -1,5 +1,5 @@
 use Rattle.std.proofs.Common.{◌+◌, suc, arith, ap, ◌∙◌, ◌≡◌}
-use Rattle.job_runner.specs.Stops.{first_word}
+use Rattle.job_runner.specs.Runs.{first_word}
 use Rattle.job_runner.proofs.StopLemmas.{next_word}
 use Rattle.job_runner.proofs.places.first_of_next.Goals as goal
 

@@ -1,5 +1,5 @@
 use Rattle.std.proofs.Common.{◌+◌, ap, ◌∙◌, ◌≡◌}
-use Rattle.job_runner.specs.Stops.{first_word, pair_at}
+use Rattle.job_runner.specs.Runs.{first_word, pair_at}
 use Rattle.job_runner.proofs.StopLemmas.{word_at}
 use Rattle.job_runner.proofs.places.word_of.Goals as goal
 

@@ -1,5 +1,5 @@
 use Rattle.std.proofs.Common.{◌≡◌, ◌+◌, ap, sym, subst, length, arith}
-use Rattle.job_runner.specs.Answers.{AreAnswers}
+use Rattle.job_runner.specs.Runs.{AreAnswers}
 use Rattle.job_runner.proofs.AnswerLemmas.{more_answers}
 use Rattle.job_runner.proofs.ArmLemmas.{length_snoc}
 use Rattle.job_runner.proofs.run.read_answers.Goals as goal

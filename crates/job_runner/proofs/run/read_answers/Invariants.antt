@@ -1,5 +1,5 @@
 use Rattle.std.proofs.Common.{◌≡◌, length}
-use Rattle.job_runner.specs.Answers.{AreAnswers}
+use Rattle.job_runner.specs.Runs.{AreAnswers}
 use Rattle.job_runner.proofs.run.read_answers.Given as goal
 
 abbrev pub invariant-loop-job : goal.invariant-loop-job

@@ -1,7 +1,7 @@
 use Rattle.std.proofs.Common.{◌-◌}
 use Rattle.completer_tree.specs.Trees.{table_id_of}
 use Rattle.job_runner.specs.Tasks.{kept_at, node_at}
-use Rattle.job_runner.specs.Stops.{stop_id_of}
+use Rattle.job_runner.specs.Runs.{stop_id_of}
 use Rattle.job_runner.proofs.run.run_all.Given as goal
 
 abbrev pub ghosts-run_on : goal.ghosts-run_on

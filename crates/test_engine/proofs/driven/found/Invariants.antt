@@ -1,7 +1,7 @@
 use Rattle.std.proofs.Common.{◌-◌}
 use Rattle.completer_tree.specs.Trees.{table_id_of}
 use Rattle.job_runner.specs.Tasks.{kept_at, node_at}
-use Rattle.job_runner.specs.Stops.{stop_id_of}
+use Rattle.job_runner.specs.Runs.{stop_id_of}
 use Rattle.test_engine.proofs.driven.found.Given as goal
 
 abbrev pub ghosts-answers_found : goal.ghosts-answers_found

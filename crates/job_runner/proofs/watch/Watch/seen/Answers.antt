@@ -1,5 +1,5 @@
 use Rattle.std.proofs.Common.{◌<◌, arith, rules}
-use Rattle.job_runner.specs.Stops.{pair_at}
+use Rattle.job_runner.specs.Runs.{pair_at}
 use Rattle.job_runner.proofs.StopLemmas.{decisive_there}
 use Rattle.job_runner.proofs.watch.Watch.seen.Goals as goal
 

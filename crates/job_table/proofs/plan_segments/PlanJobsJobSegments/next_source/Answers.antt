@@ -1,8 +1,8 @@
 use Rattle.std.proofs.Common.{◌≡◌, ◌∙◌, ◌+◌, ap, sym}
-use Rattle.job_routes.specs.Legs.{leg_in, leg_at, leg_walk}
+use Rattle.job_routes.specs.Legs.{leg_in, leg_at}
 use Rattle.job_plan.specs.Plans.{plan_in, plans_in}
 use Rattle.job_plan.specs.Parts.{walk_in}
-use Rattle.job_table.specs.PlanSegments.{chain_at, given_at, positions_of, walk_size}
+use Rattle.job_table.specs.PlanSegments.{chain_at, given_at, positions_of}
 use Rattle.job_table.proofs.PlannedAnswers.{legs_there}
 use Rattle.job_table.proofs.plan_segments.PlanJobsJobSegments.next_source.Goals as goal
 
@@ -16,4 +16,4 @@ returns-clause-size g c =
     let next = c.args.segment + 1 in
     let leg : leg_in c.leg-leg.result.now ≡ leg_at next chain.legs = c.leg-leg.ensures ∙ ap (leg_at next) (sym (legs_there plans c.args.job (plan_in c.job.result.now) c.job.ensures)) in
     let given : walk_in c.of_given.result ≡ given_at chain next = c.of_given.ensures ∙ c.in_ok-source.ensures chain c.args.segment (sym c.requires.given.1) c.requires.segment c.requires.part in
-    c.positions-size.ensures ∙ (λ i. positions_of (leg i).links (walk_size (leg_walk (leg i) (given i))))
+    c.positions-size.ensures ∙ (λ i. positions_of (leg i) (given i))
