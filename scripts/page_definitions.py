@@ -17,13 +17,25 @@ IMPORT = re.compile(r'^(?:pub )?use Rattle\.([\w.+]+?)(?:\.\{|\.\*|$| )', re.M)
 CONSTRUCTOR = re.compile(r'^  ([a-z]\w*) :', re.M)
 
 
+def head_of(text):
+    """The comment at the head of a file, as one line, up to the line that ends a sentence."""
+    head = ''
+    for line in text.splitlines():
+        if not line.startswith('-- '):
+            break
+        head += line if not head else line[2:]
+        if head.endswith('.'):
+            break
+    return head
+
+
 def specs_of(top):
-    """For each file of definitions, as imports name it: its path, its first line, and what it imports."""
+    """For each file of definitions, as imports name it: its path, what its head says, and what it imports."""
     found = {}
     for path in glob.glob(os.path.join(top, 'crates', '*', 'specs', '**', '*.antt'), recursive=True):
         name = os.path.relpath(path, os.path.join(top, 'crates'))[:-len('.antt')].replace(os.sep, '.')
         text = read(path)
-        found[name] = os.path.relpath(path, top), text.splitlines()[0] if text else '', IMPORT.findall(text)
+        found[name] = os.path.relpath(path, top), head_of(text), IMPORT.findall(text)
     return found
 
 
