@@ -7,7 +7,7 @@ from collections import namedtuple
 
 from every_rows import contexts, rows
 from lib import TOP, least_of, ran
-from running import options_of, read, write
+from running import language, options_of, read, write
 
 PAGE = """Times every operation that docs/job-language.md names, so a new one is measured as soon as the page has it.
 
@@ -17,6 +17,7 @@ PAGE = """Times every operation that docs/job-language.md names, so a new one is
     --rows N       how many rows the column has (1000000); a job over it is written up to 256 times, until a run takes 200 ms
     --rounds N     each figure is the least of N runs (3)
     --workers A,B  on how many workers (1,4)
+    --language N   2 leaves out what version 3 of the language has besides (3), for a program that doesn't read it
     --only TEXT    only rows whose kind and name have this text
 
 Each row is measured over a range, a column, a concat, after a filter, after a flatMap and after a limit. Whether a job is one at all
@@ -49,15 +50,17 @@ class Bench:
         self.options, self.folder, self.starts = options, folder, {}
         self.page = read(os.path.join(TOP, 'docs', 'job-language.md')).decode()
         for name, length in (('few', TEST_ITEMS), ('many', options.rows)):
-            write(self.path(f'{name}.csv'), 'a\n' + ''.join(f'{it}\n' for it in range(length)))
+            write(self.path(f'{name}.csv'), 'a,b\n' + ''.join(f'{it},{it % 10}\n' for it in range(length)))
 
     def path(self, name):
         return os.path.join(self.folder, name)
 
     def command(self, job, columns, workers, times=1):
         """The command over this job, written some times."""
-        jobs = write(self.path('jobs'), ''.join(f'j{it} = {job}\n' for it in range(times)))
-        return [self.options.program, '--workers', str(workers), *(['--columns', self.path(columns)] if columns else []), jobs]
+        newest = self.options.language
+        version = 'version 3\n' if newest > 2 else ''
+        jobs = write(self.path('jobs'), version + ''.join(f'j{it} = {job}\n' for it in range(times)))
+        return [self.options.program, *language(newest), '--workers', str(workers), *(['--columns', self.path(columns)] if columns else []), jobs]
 
     def least(self, *words):
         return least_of(self.options.rounds, self.command(*words), most=40)
@@ -125,7 +128,7 @@ def factors(lines):
 
 
 def every():
-    options = options_of(PAGE, items=4_000_000, rows=1_000_000, rounds=3, workers=['1', '4'], only='')
+    options = options_of(PAGE, items=4_000_000, rows=1_000_000, rounds=3, workers=['1', '4'], language=3, only='')
     with tempfile.TemporaryDirectory() as folder:
         lines = list(Bench(options, folder).lines())
     print(f'{len(os.sched_getaffinity(0))} processors, least of {options.rounds} runs')

@@ -139,6 +139,27 @@ def sources(page, length):
             yield name, f'{name}("a")'
 
 
+def terms(page):
+    """What may stand beside the parameter in a lambda over a column: the parameter, and each form of the sources with a name or
+    nothing; the program refuses the ones that are sources."""
+    yield 'x'
+    for name, parameters in headings(section(page, 'Sources')):
+        if parameters in ([], ['"NAME"']):
+            yield f'{name}("b")' if parameters else f'{name}()'
+
+
+def of_rows(page):
+    """Each term in maps and filters over a column, and after a filter."""
+    for place, source in (('', 'column("a")'), (' after a filter', 'column("a").filter(x -> x != 7)')):
+        for term in terms(page):
+            for text in ('x -> {}', 'x -> {} + 3', 'x -> x + {}', 'x -> x * {}', 'x -> x > 9 ? {} : x'):
+                text = text.format(term)
+                yield Row('lambda', f'lambda of rows, {work(text)}', text + place, source, f'map({text}).sum()', 1)
+            for text in ('x -> {} > 5', 'x -> {} < x'):
+                text = text.format(term)
+                yield Row('condition', f'condition of rows, {work(text)}', text + place, source, f'filter({text}).sum()', 1)
+
+
 def contexts(length):
     """What stands before a row: (name, the start of a job, how many items come out of it)."""
     inner, outer = 64, length // 64
@@ -162,4 +183,4 @@ def rows(page, length):
     for name, text in lambdas(page):
         found.append(Row('lambda', f'lambda, {work(text)}', name, None, f'map({text}).sum()', 1))
         found.append(Row('condition', f'condition, {work(text)}', name, None, f'filter({text}).sum()', 1))
-    return found
+    return found + list(of_rows(page))

@@ -5,6 +5,7 @@ import os
 import re
 import sys
 
+import cells
 import lib
 import loops
 import processes
@@ -27,7 +28,7 @@ def figures(part, words, program):
     """What a part shows, by the titles and the heads of its tables. A row without cells begins a table whose rows are the columns."""
     lib.SHOWN.clear()
     sys.argv = [part, *words.split(), program]
-    getattr(processes if hasattr(processes, part) else loops, part)()
+    next(getattr(it, part) for it in (processes, loops, cells) if hasattr(it, part))()
     found, heads, group = {}, [], None
     for title, cells in lib.SHOWN:
         if not cells:

@@ -7,11 +7,12 @@ _streamrun() {
         --workers) mapfile -t COMPREPLY < <(compgen -W '1 4 64' -- "$cur"); return ;;
         --threshold) mapfile -t COMPREPLY < <(compgen -W '1 1024 1048576' -- "$cur"); return ;;
         --nodes) mapfile -t COMPREPLY < <(compgen -W '0 4096 1048576' -- "$cur"); return ;;
+        --language) mapfile -t COMPREPLY < <(compgen -W '2 3' -- "$cur"); return ;;
         --columns) _filedir csv; return ;;
     esac
     $split && return
     case $cur in
-        -*) mapfile -t COMPREPLY < <(compgen -W '--columns --workers --threshold --nodes --json -h --help' -- "$cur") ;;
+        -*) mapfile -t COMPREPLY < <(compgen -W '--columns --workers --threshold --nodes --language --json -h --help' -- "$cur") ;;
         *) _filedir jobs ;;
     esac
 } && complete -F _streamrun streamrun

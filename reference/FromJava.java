@@ -43,6 +43,16 @@ public final class FromJava {
         print("limited", range(5, 100).limit(n).sum());
     }
 
+    /** Columns are arrays side by side, walked by an index. */
+    private static void rows() {
+        long[] day = {1, 2, 3, 4}, price = {1250, 990, 1500, 1250}, quantity = {4, 0, -1, 10};
+        print("revenue", range(0, 4).map(i -> price[(int) i] * quantity[(int) i]).reduce(0, Math::addExact));
+        OptionalLong best = range(0, 4).filter(i -> quantity[(int) i] > 0).map(i -> price[(int) i]).max();
+        print("best", best);
+        print("best_row", range(0, 4).filter(i -> price[(int) i] == best.getAsLong()).findFirst());
+        print("returned", range(0, 4).filter(i -> quantity[(int) i] < 0).map(i -> day[(int) i]).toArray());
+    }
+
     /** The operators of bits and of equality are there for booleans too. */
     private static void booleanOperators() {
         print("both", range(0, 12).filter(x -> x > 2 & x < 9).count());

@@ -43,6 +43,11 @@ final class Walk {
         });
     }
 
+    /** The place of the item. */
+    long row() {
+        return place;
+    }
+
     private void look() {
         steps++;
         if ((steps & 1023) == 0 && System.nanoTime() > end) {

@@ -49,9 +49,16 @@ def parts_of(text):
     return parts[1:] if parts[0] == 'LongStream' else parts
 
 
+def array_of(name):
+    """The array of Java with the cells of a column."""
+    return 'of_' + ''.join(char if char.isalnum() else f'_{ord(char)}_' for char in name)
+
+
 def in_java(text):
     """The sources of a job, or a lambda, in Java, which takes an integer without L for one of 32 bits."""
-    text = re.sub(r'column\("(\w+)"\)', r'LongStream.of(Jobs.\1)', text)
+    text = re.sub(r'column\("([^"]*)"\)', lambda it: f'LongStream.of(Jobs.{array_of(it[1])})', text)
+    text = re.sub(r'cell\("([^"]*)"\)', lambda it: f'Jobs.{array_of(it[1])}[(int) walk.row()]', text)
+    text = re.sub(r'\brow\(\)', 'walk.row()', text).replace('walk.walk.', 'walk.')
     text = re.sub(r'(?<!LongStream\.)\b(range|rangeClosed|of|empty)\(', r'LongStream.\1(', text)
     return re.sub(r'(?<![\w.])([0-9]+)[lL]?\b', r'\1L', text)
 
@@ -96,6 +103,8 @@ def job_in_java(parts):
 
 
 def terminal_in_java(walk, stage, name, inner):
+    if name == 'sumExact':
+        return f'walk.exactSum({stage}, {walk})'
     if name == 'reduce':
         numbers, operator = number_and_operator(inner)
         return f'{walk}.reduce({numbers} {OPERATORS[operator]})' if operator in OPERATORS else f'walk.exactSum({stage}, {walk})'
@@ -107,7 +116,7 @@ def terminal_in_java(walk, stage, name, inner):
 
 def report_of(folder, jobs, columns=None, seconds=1):
     """The line that Java prints for each job (name, parts), by classes in this folder."""
-    members = [f'    static final long[] {name} = {{{", ".join(f"{cell}L" for cell in cells)}}};\n' for name, cells in (columns or {}).items()]
+    members = [f'    static final long[] {array_of(name)} = {{{", ".join(f"{cell}L" for cell in cells)}}};\n' for name, cells in (columns or {}).items()]
     members += [f'    static Object j{at}(Walk walk) {{\n        return {job_in_java(parts)};\n    }}\n' for at, (_, parts) in enumerate(jobs)]
     calls = [f'        Walk.run("{name}", Jobs::j{at}, {seconds});\n' for at, (name, _) in enumerate(jobs)]
     groups = range(0, len(calls), JOBS_OF_A_METHOD)

@@ -12,7 +12,7 @@ from repository import crates_of, read
 
 # The words of one operation of each kind.
 OPERATIONS = {
-    'flatMap': r'\b(?:FlatMap|flatMap|flat_map)\b',
+    'flatMap': r'\b(?:FlatMap|flatMap)\b|\bStages\b.*\bflat_map\b',
     'floorMod': r'\b(?:floorMod|FloorMod|FloorRemainder\w*|\w*floor_remainder)\b',
     'findFirst': r'\b(?:findFirst|FindFirst|find_first)(?:_\w+)?\b',
 }

@@ -4,7 +4,7 @@ A block that begins with ```console has commands, each after '$ ' (it goes on in
 while a quote is open), and after each the lines that it prints. A command runs in a folder that has examples/, reference/ and what else the
 repository has, with the program on PATH as `streamrun`, and `streamrun-merge` from beside it or from its crate. It has to end with status 0 and to print just these lines,
 standard error among them. Commands of one page share the folder, so a later one may read what an earlier one wrote.
-Answers in the text are run too, all answers of a page as one file over examples/accounts.csv: `JOB` is `ANSWER`, or is a
+Answers in the text are run too, all answers of a page as one file of version 3 over examples/accounts.csv: `JOB` is `ANSWER`, or is a
 number, and `NAME = JOB` gives `NAME = ANSWER`. The recipes are run over random tables too (page_recipes.py).
 
 A command that names a tool of TOOLS that isn't installed, a script that runs Java, or a program of Python that imports what
@@ -69,10 +69,10 @@ def wrong_answers(text, top, program):
     """(line number, fault) of each answer in the text that the program doesn't give, and how many it gives."""
     said = list(answers_in(text))
     with tempfile.NamedTemporaryFile('w', suffix='.jobs') as file:
-        file.writelines(f'answer_{place} = {job}\n' for place, (_, job, _) in enumerate(said))
+        file.writelines(['version 3\n', *(f'answer_{place} = {job}\n' for place, (_, job, _) in enumerate(said))])
         file.flush()
         columns = os.path.join(top, 'examples', 'accounts.csv')
-        run = subprocess.run([program, '--columns', columns, file.name], stdout=subprocess.PIPE, stderr=subprocess.STDOUT,
+        run = subprocess.run([program, '--language', '3', '--columns', columns, file.name], stdout=subprocess.PIPE, stderr=subprocess.STDOUT,
                              text=True, timeout=SECONDS, check=False)
     given = dict(line.split(' = ', 1) for line in run.stdout.splitlines() if ' = ' in line)
     wrong = [(number, f'{job} is {given.get(f"answer_{place}", run.stdout.strip())} and not {answer}')

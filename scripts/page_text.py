@@ -6,7 +6,7 @@ import re
 from page_layout import page_wrapped, too_long, torn as torn_lines
 from repository import read, sources_of, write
 
-MOST_WORDS_OF_THE_README, MOST_WORDS_OF_A_PAGE, MOST_WORDS = 1000, 6500, 46_000
+MOST_WORDS_OF_THE_README, MOST_WORDS_OF_A_PAGE, MOST_WORDS = 1000, 6500, 47_144
 TICKED = re.compile(r'`([^`]+)`')
 CITED = re.compile(r'^[a-z_0-9]+(?:::[A-Za-z_0-9]+)+$')
 NAME = re.compile(r'^[a-z_0-9]+$')

@@ -3,7 +3,7 @@
 import collections
 import os
 
-from running import TOP, read
+from running import TOP, language, newest_of, read
 import worked
 
 # `columns` is None for no column file; `options` are the words that the report asks for.
@@ -37,7 +37,9 @@ def example(name, end='report'):
     columns = read(table + '.csv') if table else None
     said = read(f'{path}.{end}')
     out, err, status = (b'', said, 1) if end == 'fault' else (said, b'', 0)
-    return Case(f'{name}.{end}', read(path + '.jobs'), columns, ['--json'] if end == 'json' else [], out, err, status)
+    jobs = read(path + '.jobs')
+    options = [*language(newest_of(jobs)), *(['--json'] if end == 'json' else [])]
+    return Case(f'{name}.{end}', jobs, columns, options, out, err, status)
 
 
 def examples(ends=('report', 'json', 'fault')):
@@ -48,14 +50,17 @@ def examples(ends=('report', 'json', 'fault')):
 
 
 def all_answers():
-    """Every answer of worked.py that is no refusal, each file of version 1 once more as one of version 2: the jobs of one line each
+    """Every answer of worked.py that is no refusal, each file once more as one of each later version: the jobs of one line each
     together in one file, the others as they are."""
     jobs = ''.join(f'w{at} = {job}\n' for at, (job, _) in enumerate(worked.ANSWERS))
     out = ''.join(f'w{at} = {answer}\n' for at, (_, answer) in enumerate(worked.ANSWERS))
-    for at, (text, report) in enumerate(worked.of_both_versions([(jobs, out), *worked.REPORTS])):
-        yield Case(f'worked answers {at}', text.encode(), worked.COLUMNS, [], report.encode(), b'', 0)
-    for at, (text, report) in enumerate(worked.of_both_versions(worked.JSON)):
-        yield Case(f'worked JSON {at}', text.encode(), None, ['--json'], report.encode(), b'', 0)
+    later_jobs = ''.join(f'w{at} = {job}\n' for at, (job, _) in enumerate(worked.LATER_ANSWERS))
+    later_out = ''.join(f'w{at} = {answer}\n' for at, (_, answer) in enumerate(worked.LATER_ANSWERS))
+    files = [(jobs, out), (f'version 3\n{later_jobs}', later_out), *worked.REPORTS, *worked.LATER_REPORTS]
+    for at, (text, newest, report) in enumerate(worked.of_all_versions(files)):
+        yield Case(f'worked answers {at}', text.encode(), worked.COLUMNS, language(newest), report.encode(), b'', 0)
+    for at, (text, newest, report) in enumerate(worked.of_all_versions(worked.JSON)):
+        yield Case(f'worked JSON {at}', text.encode(), None, [*language(newest), '--json'], report.encode(), b'', 0)
 
 
 def arguments_of(case, faults):

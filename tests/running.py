@@ -5,6 +5,7 @@ import concurrent.futures
 import functools
 import glob
 import os
+import re
 import resource
 import shutil
 import subprocess
@@ -22,6 +23,10 @@ KB, MB = 2 ** 10, 2 ** 20
 NOBODY = 65534
 # The folders with job files that have a report or a refusal beside them.
 FOLDERS = ['examples', 'examples/gallery', 'examples/tables', 'examples/tutorial', 'tests/answers', 'tests/messages']
+
+# The head of a file of a later version than is read by default: comments and empty lines before its first line are skipped.
+LATER_FILE = re.compile(rb'(?:\xef\xbb\xbf)?(?:[ \t]*(?:(?:#|//)[^\n]*)?\r?\n)*[ \t]*version[ \t]+3[ \t]*\r?(?:\n|$)')
+LANGUAGES = 2, 3
 
 Run = collections.namedtuple('Run', 'out err status')
 # What a run took: wall time and processor time in seconds, and the most bytes that it held.
@@ -76,6 +81,16 @@ def job_files():
         folder, name = os.path.split(path[:-len('.jobs')])
         tables = [os.path.join(folder, table + '.csv') for table in (name, name.split('.')[0])]
         yield path, next(filter(os.path.exists, tables), None)
+
+
+def newest_of(jobs):
+    """The least number of `--language` with which a job file may be accepted."""
+    return LANGUAGES[-1] if LATER_FILE.match(jobs) else LANGUAGES[0]
+
+
+def language(newest):
+    """The words that ask for a language; the first one is the default."""
+    return [] if newest == LANGUAGES[0] else ['--language', str(newest)]
 
 
 def sets(user=None, **limits):

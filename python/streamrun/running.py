@@ -14,12 +14,14 @@ from .tables import csv_of
 STANDARD_INPUT = '/dev/stdin'
 
 
-def run(jobs: str | os.PathLike[str], columns: Any = None, *, workers: int | None = None, program: str | os.PathLike[str] | None = None) -> Report:
+def run(jobs: str | os.PathLike[str], columns: Any = None, *, workers: int | None = None, language: int | None = None,
+        program: str | os.PathLike[str] | None = None) -> Report:
     """Runs jobs over a table, and gives the report.
 
     jobs      the text of a job file; or the path of one, if it is a Path, or a text without '=' and line ends
     columns   the path of a column file, a dict of lists or numpy arrays, or a data frame of pandas; its columns are integers
     workers   how many threads run the jobs; the report is the same for any number
+    language  the newest version of job files that is read: 2, if not given, or 3
     program   the program, if it isn't the `streamrun` on PATH
 
     A run that fails is a StreamrunError with the program's line; a table that isn't of integers is a TableError.
@@ -37,10 +39,12 @@ def run(jobs: str | os.PathLike[str], columns: Any = None, *, workers: int | Non
             words.append(f'--columns={STANDARD_INPUT if table is not None else os.fspath(columns)}')
         if workers is not None:
             words.append(f'--workers={workers}')
+        if language is not None:
+            words.append(f'--language={language}')
         ended = started([*words, '--', path], table)
         if ended.returncode == 0:
             return Report(ended.stdout)
-        raise failure_of(ended, path, table, columns)
+        raise failure_of(ended, path, table, columns, language)
 
 
 def is_path(jobs: str | os.PathLike[str]) -> bool:
@@ -57,7 +61,7 @@ def started(words: list[str], table: bytes | None) -> subprocess.CompletedProces
         raise ProgramNotFound(f'no program {words[0]!r}: give its path as program, or put it on PATH', 127) from missing
 
 
-def failure_of(ended: subprocess.CompletedProcess[bytes], path: str, table: bytes | None, columns: Any) -> StreamrunError:
+def failure_of(ended: subprocess.CompletedProcess[bytes], path: str, table: bytes | None, columns: Any, language: int | None) -> StreamrunError:
     """The error of a run that failed, with what is known of the place in a refused file."""
     line = ended.stderr.decode(errors='replace').rstrip('\n')
     explanation = None
@@ -65,7 +69,7 @@ def failure_of(ended: subprocess.CompletedProcess[bytes], path: str, table: byte
         cells = table
         if cells is None and columns is not None:
             cells = bytes_of(os.fspath(columns))
-        explanation = explanation_of(bytes_of(path), cells)
+        explanation = explanation_of(bytes_of(path), cells, language)
     return error_of(line, ended.returncode, explanation)
 
 
@@ -77,7 +81,7 @@ def bytes_of(path: str) -> bytes | None:
         return None
 
 
-def explanation_of(text: bytes | None, columns: bytes | None) -> str | None:
+def explanation_of(text: bytes | None, columns: bytes | None, language: int | None) -> str | None:
     """What `tools/explain` prints of a refused file, if its package is installed."""
     if text is None:
         return None
@@ -85,5 +89,5 @@ def explanation_of(text: bytes | None, columns: bytes | None) -> str | None:
         explain = importlib.import_module('streamrun_language.explain')
     except ImportError:
         return None
-    found = explain.explain_jobs(text, columns)
+    found = explain.explain_jobs(text, columns, newest=language or 2)
     return None if found is None else str(found)

@@ -8,5 +8,5 @@
     refusals                                 causes and places of refusals
     explain, site                            where and why a file is refused, with a caret and a hint
     word_hints, job_hints, lambda_hints,     the hints, and what to write for words of Java and of other tools
-    meaning_hints, table_hints, java_words
+    meaning_hints, row_hints, table_hints, java_words
 """

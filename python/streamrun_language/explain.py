@@ -1,6 +1,6 @@
 """Where and why a job file or a table is refused, for a reader and for editors.
 
-    explain_jobs(jobs, columns)     an Explanation, or None if both are accepted
+    explain_jobs(jobs, columns, newest)     an Explanation, or None if both are accepted
 
     str(explanation)                the place with a caret, and a hint
     explanation.json()              an object for editors
@@ -15,9 +15,10 @@ from typing import Any, Dict, List, Optional, Tuple
 from .job_hints import ENDS, PARTS, STRUCTURE
 from .jobs import Job, read_each
 from .lambda_hints import EXPRESSIONS, HEADS, STREAM_RULES
-from .lines import BLANKS, Lines, lines_of, read_lines
+from .lines import BLANKS, NEWEST, Lines, lines_of, read_lines
 from .meaning_hints import LISTED, NAMES, OTHERS, TYPES
 from .refusals import Cause, RefusedFile, RefusedTable
+from .row_hints import NO_ROW, OF_JOBS, OF_LAMBDAS, OF_OPERATORS
 from .site import Rule, Site
 from .table_hints import TableSite, on_one_line, table_hint
 from .tables import place_of, read_columns
@@ -25,9 +26,9 @@ from .word_hints import BYTES, NUMBERS, WORD_RULES
 
 # The rules of each cause, the first that applies giving the hint.
 RULES = {
-    Cause.SYNTAX: [*BYTES, *NUMBERS, *STRUCTURE, *PARTS, *ENDS],
-    Cause.EXPRESSION_SYNTAX: [*NUMBERS, *WORD_RULES, *HEADS, *STREAM_RULES, *EXPRESSIONS],
-    Cause.UNKNOWN_NAME: NAMES, Cause.WRONG_TYPE: TYPES, Cause.OPERATOR_NOT_LISTED: LISTED,
+    Cause.SYNTAX: [*OF_JOBS, *BYTES, *NUMBERS, *STRUCTURE, *PARTS, *ENDS],
+    Cause.EXPRESSION_SYNTAX: [*OF_LAMBDAS, *NUMBERS, *WORD_RULES, *HEADS, *STREAM_RULES, *EXPRESSIONS],
+    Cause.UNKNOWN_NAME: NAMES, Cause.WRONG_TYPE: TYPES, Cause.OPERATOR_NOT_LISTED: [*OF_OPERATORS, *LISTED], Cause.NO_ROW: NO_ROW,
     **OTHERS,
 }
 # Where no rule of a cause applies.
@@ -105,30 +106,31 @@ def rule_of(site: Site) -> Rule:
     return next((rule for rule in RULES[site.refused.cause] if rule.applies(site)), ANY)
 
 
-def explain_job_file(data: bytes, columns: Optional[Dict[str, Any]], file: str) -> Optional[Explanation]:
-    """Why a job file is refused; columns: the names of the table, or None without one."""
+def explain_job_file(data: bytes, columns: Optional[Dict[str, Any]], file: str, newest: int) -> Optional[Explanation]:
+    """Why a job file is refused; columns: the names of the table, or None without one; newest: the newest version that is
+    read."""
     earlier: Dict[str, Job] = {}
     try:
-        for job in read_each(data, columns or {}):
+        for job in read_each(data, columns or {}, newest):
             earlier[job.name] = job
         return None
     except RefusedFile as refused:
-        return explain_job(data, refused, earlier, columns, file)
+        return explain_job(data, refused, earlier, columns, file, newest)
 
 
-def explain_job(data: bytes, refused: RefusedFile, earlier: Dict[str, Job], columns, file: str) -> Explanation:
+def explain_job(data: bytes, refused: RefusedFile, earlier: Dict[str, Job], columns, file: str, newest: int) -> Explanation:
     """Why a job is refused, after those above it."""
     job, cause = refused.job, refused.refused
     line, column = job.position(cause.at)
     names = None if columns is None else list(columns)
-    site = Site(job, cause, lines_or_none(data), earlier, names, line_below(data, job.starts[-1][1]))
+    site = Site(job, cause, lines_or_none(data, newest), earlier, names, line_below(data, job.starts[-1][1]))
     return Explanation(file, line, column, str(refused), rule_of(site).hint(site), lines_of(data)[line - 1])
 
 
-def lines_or_none(data: bytes) -> Lines:
+def lines_or_none(data: bytes, newest: int) -> Lines:
     """The lines of a file, or of an empty file if the first one continues no job."""
     try:
-        return read_lines(data)
+        return read_lines(data, newest)
     except RefusedFile:
         return read_lines(b'')
 
@@ -145,12 +147,13 @@ def explain_table(data: bytes, file: str) -> Tuple[Optional[Dict[str, List[int]]
         return None, Explanation(file, place.line, place.column, str(refused), table_hint(site), text, cell)
 
 
-def explain_jobs(jobs: bytes, columns: Optional[bytes] = None, jobs_file: str = 'JOBS',
-                 columns_file: str = 'FILE') -> Optional[Explanation]:
-    """Why the program refuses these bytes, the table first, or None if it accepts them; the files are named so."""
+def explain_jobs(jobs: bytes, columns: Optional[bytes] = None, jobs_file: str = 'JOBS', columns_file: str = 'FILE',
+                 newest: int = NEWEST) -> Optional[Explanation]:
+    """Why the program refuses these bytes, the table first, or None if it accepts them; the files are named so, and newest is
+    the newest version of job files that is read."""
     cells = None
     if columns is not None:
         cells, refused = explain_table(columns, columns_file)
         if refused:
             return refused
-    return explain_job_file(jobs, cells, jobs_file)
+    return explain_job_file(jobs, cells, jobs_file, newest)

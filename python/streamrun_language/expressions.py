@@ -11,6 +11,8 @@ from .values import BINARY, CALLS, CONSTANTS, MAX, UNARY, Form
 
 # What stands before the name of a parameter in Python, where it might be a reserved word.
 VARIABLE = 'of_'
+# The names of an item's place and of the table in Python.
+PLACE, COLUMNS = 'place', 'columns'
 
 
 @dataclass
@@ -28,7 +30,8 @@ class Node:
         return 'long'
 
     def python(self, texts: Sequence[str], numbers: Mapping[str, int]) -> str:
-        """Its text in Python by the texts of its operands; numbers: the value of each job that a lambda names."""
+        """Its text in Python by the texts of its operands; numbers: the value of each job that a lambda names. Beside the
+        parameters it may use PLACE, and COLUMNS, the table."""
         raise NotImplementedError
 
 
@@ -65,6 +68,23 @@ class Reference(Node):
 
     def python(self, texts, numbers):
         return f'({numbers[self.text]})'
+
+
+@dataclass
+class Cell(Node):
+    """The cell of another column, in the row that the item came from; `at` is the place of the string that names it."""
+
+    text: str
+
+    def python(self, texts, numbers):
+        return f'{COLUMNS}[{self.text!r}][{PLACE}]'
+
+
+class Row(Node):
+    """The place of the item."""
+
+    def python(self, texts, numbers):
+        return PLACE
 
 
 @dataclass

@@ -31,7 +31,7 @@ OPERATIONS = {
     'all': 'write .allMatch(..)', 'none': 'write .noneMatch(..)', 'exists': 'write .anyMatch(..)',
     'contains': 'write .anyMatch(x -> x == N)', 'product': 'write .reduce(1, product)',
     'groupBy': 'group the table by another tool, such as mlr count-distinct or mlr stats1',
-    'zip': 'make one column of two by another tool, such as mlr put',
+    'zip': 'write cell("NAME") in a lambda for another cell of the row, in a file of version 3',
 }
 OF_OPTIONALS = {
     'orElse': 'write .reduce(Long.MIN_VALUE, max) or .reduce(Long.MAX_VALUE, min), which give a number also without '

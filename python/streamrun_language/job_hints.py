@@ -7,7 +7,7 @@ from . import java_words
 from .lambdas import Argument, Want, read_lambda
 from .refusals import Refused, Wanted
 from .site import Rule, Site, listed, nearest
-from .syntax import NUMBERS, OPERATIONS, SOURCES, STAGES, TERMINALS
+from .syntax import LATER, NUMBERS, OPERATIONS, SOURCES, STAGES, TERMINALS
 from .tokens import Kind
 from .values import BINDS
 
@@ -28,7 +28,7 @@ def shape(name: str) -> str:
 def value_of_argument(site: Site) -> str:
     """The value of an argument without names, or nothing."""
     try:
-        return str(read_lambda(Argument.of(b'x -> ' + site.argument().encode()), Want.LONG).function({})(0))
+        return str(read_lambda(Argument.of(b'x -> ' + site.argument().encode()), Want.LONG).function({}, {})(0, 0))
     except Exception:  # Whatever isn't an expression, or has no value, has no hint of this kind.
         return ''
 
@@ -122,7 +122,7 @@ def operation_hint(site: Site) -> str:
 def later_hint(site: Site) -> str:
     """What to write for an operation after the terminal."""
     word, before = after_terminal(site), [token.text for token in site.tokens[:site.index]]
-    terminal = next(it for it in reversed(before) if it in TERMINALS)
+    terminal = next(it for it in reversed(before) if it in TERMINALS or it in LATER)
     if word in java_words.OF_OPTIONALS:
         return f'There is no .{word}(): {java_words.OF_OPTIONALS[word]}.'
     if word == 'onFault':

@@ -1,6 +1,6 @@
 """Job files: which jobs the bytes of a file spell, or why the file is refused.
 
-    read_jobs(data, columns)     the jobs, or RefusedFile
+    read_jobs(data, columns, newest)     the jobs, or RefusedFile
 """
 from __future__ import annotations
 
@@ -8,7 +8,7 @@ from dataclasses import dataclass
 from typing import Collection, Dict, Iterator, List, Optional, Union
 
 from .lambdas import Lambda, read_lambda
-from .lines import JobText, read_lines
+from .lines import NEWEST, JobText, read_lines
 from .operators import EXACT, Operator, read_operator
 from .refusals import Cause, Refused, RefusedFile
 from .syntax import OPERATIONS, OPERATOR, Call, JobReader, JobSyntax, Source
@@ -75,14 +75,17 @@ class Job:
 
 
 class JobChecker:
-    """Checks the parts of a job in order of writing. columns: the names of columns; earlier: the jobs above."""
+    """Checks the parts of a job in order of writing. version: of its file; columns: the names of columns; earlier: the jobs
+    above; has_rows: whether its items are rows, since its source is one column."""
 
-    def __init__(self, columns: Collection[str], earlier: Dict[str, Job]):
-        self.columns, self.earlier = columns, earlier
+    def __init__(self, version: int, columns: Collection[str], earlier: Dict[str, Job]):
+        self.version, self.columns, self.earlier = version, columns, earlier
+        self.has_rows = False
 
     def job(self, syntax: JobSyntax) -> Job:
         """The job, or its first part with a fault."""
         self.name(syntax.name)
+        self.has_rows = syntax.source.name == 'column'
         plain = syntax.source.plain()
         if len(plain) > MOST_SOURCES:
             raise Refused(Cause.TOO_LONG, plain[MOST_SOURCES].start, about='concat')
@@ -133,6 +136,8 @@ class JobChecker:
     def operation(self, call: Call) -> Operation:
         """A stage or a terminal."""
         numbers = [number.value() for number in call.numbers]
+        if call.name == 'sumExact':
+            return Operation('reduce', [EXACT.identity], EXACT)
         want = OPERATIONS[call.name]
         if call.name in ('limit', 'skip') and numbers[0] < 0:
             raise Refused(Cause.NEGATIVE_COUNT, call.numbers[0].at, about=call)
@@ -142,13 +147,14 @@ class JobChecker:
             return Operation(call.name, numbers, None)
         if want is OPERATOR:
             return Operation(call.name, numbers, self.operator(call, numbers))
-        read = read_lambda(call.argument, want)
+        read = read_lambda(call.argument, want, self.version)
         self.references(read)
+        self.cells(read)
         return Operation(call.name, numbers, read)
 
     def operator(self, call: Call, numbers: List[int]) -> Operator:
         """The operator of a `reduce` or a `prefix`."""
-        operator = read_operator(call.argument)
+        operator = read_operator(call.argument, self.version)
         if operator is EXACT and (call.name != 'reduce' or not numbers):
             raise Refused(Cause.OPERATOR_NOT_LISTED, call.argument.tokens[0].start, about=EXACT)
         if call.name == 'reduce' and numbers:
@@ -166,6 +172,14 @@ class JobChecker:
             if self.earlier[node.text].terminal.name in NOT_SCALAR:
                 raise Refused(Cause.NOT_A_NUMBER, node.at, about=self.earlier[node.text])
 
+    def cells(self, read: Lambda) -> None:
+        """The cells that a lambda names."""
+        for node in read.cells():
+            if not self.has_rows:
+                raise Refused(Cause.NO_ROW, node.at, about=node.text)
+            if node.text not in self.columns:
+                raise Refused(Cause.UNKNOWN_COLUMN, node.at, about=node.text)
+
     def fallback(self, syntax: JobSyntax) -> Optional[int]:
         """The number of `onFault`, if there is one."""
         if syntax.fallback is None:
@@ -182,12 +196,12 @@ def read_job(text: bytes, version: int, columns: Collection[str], earlier: Dict[
         raise Refused(Cause.TOO_LONG, len(text) - len(text.lstrip(b' \t')), about='jobs')
     if len(text) > MOST_BYTES:
         raise Refused(Cause.TOO_LONG, MOST_BYTES, about='text')
-    return JobChecker(columns, earlier).job(JobReader(text, version).job())
+    return JobChecker(version, columns, earlier).job(JobReader(text, version).job())
 
 
-def read_each(data: bytes, columns: Collection[str]) -> Iterator[Job]:
+def read_each(data: bytes, columns: Collection[str], newest: int = NEWEST) -> Iterator[Job]:
     """The jobs of a file one after the other, up to one that is refused."""
-    lines, earlier = read_lines(data), {}
+    lines, earlier = read_lines(data, newest), {}
     for text in lines.jobs:
         try:
             job = read_job(text.text, lines.version, columns, earlier)
@@ -197,6 +211,6 @@ def read_each(data: bytes, columns: Collection[str]) -> Iterator[Job]:
         yield job
 
 
-def read_jobs(data: bytes, columns: Collection[str]) -> List[Job]:
-    """All jobs of a file; columns: the names of columns."""
-    return list(read_each(data, columns))
+def read_jobs(data: bytes, columns: Collection[str], newest: int = NEWEST) -> List[Job]:
+    """All jobs of a file; columns: the names of columns; newest: the newest version that is read."""
+    return list(read_each(data, columns, newest))

@@ -49,8 +49,8 @@ def call_hint(site: Site) -> str:
     name = site.word(-1)
     if name in STREAMS:
         return f'`{name}` is an inner stream, which stands in flatMap: .flatMap(x -> {name}(..)).'
-    if name in ('column', 'result', 'concat'):
-        return 'A lambda has the items of its own source alone: make one column of two before, such as by mlr put.'
+    if name in ('result', 'concat'):
+        return 'A lambda has the items of its own source alone: end another job with a number, which is $NAME.'
     if name in OPERATIONS and not method_of(name):
         return f'No operation stands in a lambda: write .{name}(..) as a stage or a terminal of the job.'
     method = method_of(name)

@@ -1,7 +1,7 @@
 """Lambdas: which expression a text spells, or why it is refused.
 
-    read_lambda(argument, want)      a Lambda, or Refused
-    Lambda.function(numbers)         a function of its parameters, which may raise Fault
+    read_lambda(argument, want, version)     a Lambda, or Refused
+    Lambda.function(numbers, columns)        a function of a place and its parameters, which may raise Fault
 """
 from __future__ import annotations
 
@@ -18,6 +18,8 @@ from .values import BINDS, CALLS, CONSTANTS, FUNCTIONS
 
 MOST_TOKENS, MOST_DEPTH, MOST_INNER_VALUES = 4096, 64, 64
 RESERVED = {'Math', 'Long', 'LongStream', 'long', 'true', 'false'}
+# The words that no parameter has from version 3 on, where they stand before parentheses.
+WITH_ROWS, WORDS_OF_ROWS = 3, {'cell', 'row'}
 STREAMS = ('range', 'rangeClosed', 'of', 'empty')
 DEEP = 60000
 
@@ -59,16 +61,17 @@ def deep_recursion() -> Iterator[None]:
 class LambdaReader(Reader):
     """The grammar of lambdas."""
 
-    def __init__(self, argument: Argument):
+    def __init__(self, argument: Argument, version: int):
         super().__init__(argument.tokens, argument.end)
         self.start = argument.start
+        self.of_rows = WORDS_OF_ROWS if version >= WITH_ROWS else set()
 
     def refusal(self, at, wanted):
         return Refused(Cause.EXPRESSION_SYNTAX, at, wanted, column=at - self.start + 1)
 
     def parameter(self, wanted: Wanted = Wanted.PARAMETER, other_than: str = '') -> str:
         """The name of a parameter."""
-        if self.peek() in RESERVED or self.peek() == other_than:
+        if self.peek() in RESERVED | self.of_rows or self.peek() == other_than:
             self.refuse(wanted)
         return self.take(Kind.NAME, wanted).text
 
@@ -154,7 +157,18 @@ class LambdaReader(Reader):
         if token.text in RESERVED:
             self.next -= 1
             self.refuse(Wanted.OPERAND)
-        return e.Name(token.start, token.text)
+        return self.of_row(token) if token.text in self.of_rows else e.Name(token.start, token.text)
+
+    def of_row(self, token: Token) -> e.Node:
+        """A cell or the place of the item."""
+        if token.text == 'row':
+            self.want('(', Wanted.ROW_OPEN)
+            self.want(')', Wanted.ROW_OPEN)
+            return e.Row(token.start)
+        self.want('(', Wanted.CELL_OPEN)
+        column = self.take(Kind.STRING, Wanted.STRING)
+        self.want(')', Wanted.CLOSE)
+        return e.Cell(column.start, column.text[1:-1])
 
     def operands(self) -> List[e.Node]:
         """One operand or more, and the parenthesis after them."""
@@ -205,10 +219,15 @@ class Lambda:
         """The jobs that it names, in order of writing."""
         return [node for node in e.nodes_of(self.body) if isinstance(node, e.Reference)]
 
-    def function(self, numbers: Mapping[str, int]) -> Callable[..., Any]:
-        """Its value at an integer for each parameter; numbers has the value of each job that it names."""
-        parameters = ', '.join(e.VARIABLE + name for name in self.parameters)
-        return eval(f'lambda {parameters}: {e.python_of(self.body, numbers)}', dict(FUNCTIONS))
+    def cells(self) -> List[e.Cell]:
+        """The cells that it names, in order of writing."""
+        return [node for node in e.nodes_of(self.body) if isinstance(node, e.Cell)]
+
+    def function(self, numbers: Mapping[str, int], columns: Mapping[str, Sequence[int]]) -> Callable[..., Any]:
+        """Its value at the place of an item and an integer for each parameter; numbers has the value of each job that it
+        names, columns the cells of each column."""
+        parameters = ', '.join([e.PLACE, *(e.VARIABLE + name for name in self.parameters)])
+        return eval(f'lambda {parameters}: {e.python_of(self.body, numbers)}', {**FUNCTIONS, e.COLUMNS: columns})
 
 
 def demand_small(body: e.Node) -> None:
@@ -241,11 +260,11 @@ def demand_typed(body: e.Node, want: Want) -> None:
         raise Refused(Cause.WRONG_TYPE, min(node.at for node in e.nodes_of(body)), about=want)
 
 
-def read_lambda(argument: Argument, want: Want) -> Lambda:
-    """The lambda that an argument spells."""
+def read_lambda(argument: Argument, want: Want, version: int = 2) -> Lambda:
+    """The lambda that an argument spells in a file of this version."""
     if len(argument.tokens) > MOST_TOKENS:
         raise Refused(Cause.TOO_DEEP, argument.tokens[MOST_TOKENS].start, about=MOST_TOKENS)
-    reader = LambdaReader(argument)
+    reader = LambdaReader(argument, version)
     with deep_recursion():
         parameters = reader.pair() if want is Want.PAIR else reader.head()
         body = reader.body(want)

@@ -9,7 +9,9 @@ from .refusals import Cause, Refused, RefusedFile, Wanted
 
 MARK = b'\xef\xbb\xbf'
 BLANKS = b' \t'
-VERSION = re.compile(rb'version[ \t]+2[ \t]*')
+VERSION = re.compile(rb'version[ \t]+([23])[ \t]*')
+# The newest version that is read, if no other one is asked for.
+NEWEST = 2
 
 
 @dataclass
@@ -50,16 +52,24 @@ def lines_of(data: bytes) -> List[bytes]:
     return [line[:-1] if line.endswith(b'\r') else line for line in lines[:-1]] + lines[-1:]
 
 
-def read_lines(data: bytes) -> Lines:
-    """The jobs of a file as texts. A line that continues a job has to have one above it."""
+def said_version(text: bytes, newest: int) -> int:
+    """The version that the first line of a file says, or 0 if it says none of those that are read."""
+    found = VERSION.fullmatch(text)
+    return int(found[1]) if found and int(found[1]) <= newest else 0
+
+
+def read_lines(data: bytes, newest: int = NEWEST) -> Lines:
+    """The jobs of a file as texts; newest: the newest version that is read. A line that continues a job has to have one
+    above it."""
     version, jobs = 0, []
     for number, line in enumerate(lines_of(data), 1):
         text = line.lstrip(BLANKS)
         if not text or text.startswith((b'#', b'//')):
             continue
         if not version:
-            version = 2 if VERSION.fullmatch(text) else 1
-            if version == 2:
+            said = said_version(text, newest)
+            version = said or 1
+            if said:
                 continue
         if not text.startswith(b'.'):
             jobs.append(JobText(number, line, [(0, number)]))

@@ -1,6 +1,7 @@
 """Hints on jobs that are in the grammar, and whose names, types, numbers or operators are refused."""
 from __future__ import annotations
 
+import functools
 from typing import Callable, Dict, List, Optional, Union
 
 from . import expressions as e
@@ -151,7 +152,7 @@ def like_listed(read: Lambda) -> str:
     """The operator that has the same values at all samples, or nothing. A lambda with numbers may differ elsewhere."""
     if any(isinstance(node, (e.Number, e.Constant)) for node in e.nodes_of(read.body)):
         return ''
-    function = read.function({})
+    function = functools.partial(read.function({}, {}), 0)
     listed_functions = {**{name: it.function for name, it in OPERATORS.items()}, EXACT.name: lambda f, g: exact(f + g)}
     pairs = [(f, g) for f in SAMPLES for g in SAMPLES]
     return next((name for name, other in listed_functions.items()

@@ -1,6 +1,6 @@
 """What streamrun has to write: answers of jobs, and reports.
 
-    outcome(jobs, columns, form)     the bytes of standard output and of standard error, and the status
+    outcome(jobs, columns, form, newest)     the bytes of standard output and of standard error, and the status
 
 Nothing of it is taken from the program: it is slow, has no pieces, batches or threads, and so can't share a mistake with
 them.
@@ -9,9 +9,10 @@ from __future__ import annotations
 
 from dataclasses import dataclass
 from enum import Enum
-from typing import Any, Dict, List, Optional, Tuple
+from typing import Any, Callable, Dict, List, Optional, Tuple
 
 from .jobs import Job, read_jobs
+from .lines import NEWEST
 from .operators import EXACT
 from .refusals import RefusedFile, RefusedTable
 from .tables import read_columns
@@ -42,13 +43,13 @@ class Answer:
         return self.form in (Form.FAULT, Form.UNUSABLE) or self == Answer(Form.OPTIONAL, None)
 
 
-def answer_of(job: Job, items: Items, numbers: Dict[str, int]) -> Answer:
+def answer_of(job: Job, items: Items, numbers: Dict[str, int], columns: Dict[str, List[int]]) -> Answer:
     """The answer of a job whose walk meets no fault."""
     name, stage = job.terminal.name, len(job.stages) + 1
     if job.terminal.of is EXACT:
         return Answer(Form.NUMBER, exact_sum(items, stage))
     if name.endswith('Match'):
-        return Answer(Form.TRUTH, match(job, items, stage, numbers))
+        return Answer(Form.TRUTH, match(job, items, stage, job.terminal.of.function(numbers, columns)))
     values = (value for _, value in items)
     if name == 'reduce':
         return fold(job, values)
@@ -73,9 +74,9 @@ def fold(job: Job, values) -> Answer:
     return Answer(Form.NUMBER, job.terminal.numbers[0] if folded is None else folded)
 
 
-def match(job: Job, items: Items, stage: int, numbers: Dict[str, int]) -> bool:
+def match(job: Job, items: Items, stage: int, function: Callable) -> bool:
     """Whether a lambda is true of an item, of every item or of none. No item after the first that decides is asked for."""
-    function, name = job.terminal.of.function(numbers), job.terminal.name
+    name = job.terminal.name
     for place, value in items:
         if lambda_at(function, stage, place, value) == (name != 'allMatch'):
             return name == 'anyMatch'
@@ -100,10 +101,10 @@ def instead_of_fault(job: Job, fault: Tuple) -> Answer:
     return Answer(Form.NUMBER if is_number else Form.OPTIONAL, job.on_fault)
 
 
-def answer_over(job: Job, source: Selection, numbers: Dict[str, int]) -> Answer:
+def answer_over(job: Job, source: Selection, numbers: Dict[str, int], columns: Dict[str, List[int]]) -> Answer:
     """The answer of a job over its source."""
     try:
-        return answer_of(job, walk(job, source, numbers), numbers)
+        return answer_of(job, walk(job, source, numbers, columns), numbers, columns)
     except WalkFault as fault:
         return instead_of_fault(job, fault.args)
 
@@ -115,7 +116,7 @@ def answer_after(job: Job, columns: Dict[str, List[int]], answers: Dict[str, Ans
     if missing:
         return Answer(Form.UNUSABLE, missing[0])
     values = {name: answer.value for name, answer in named.items()}
-    return answer_over(job, Selection(parts_of(job, columns, values)), values)
+    return answer_over(job, Selection(parts_of(job, columns, values)), values, columns)
 
 
 def answers_of(jobs: List[Job], columns: Dict[str, List[int]]) -> Dict[str, Answer]:
@@ -157,11 +158,12 @@ def report(answers: Dict[str, Answer], form: str) -> str:
     return ''.join(f'{name} = {text_of(answer)}\n' for name, answer in answers.items())
 
 
-def outcome(jobs: bytes, columns: Optional[bytes] = None, form: str = 'text') -> Tuple[bytes, bytes, int]:
-    """Standard output, standard error and status of a run over these bytes; columns: None if no file is given."""
+def outcome(jobs: bytes, columns: Optional[bytes] = None, form: str = 'text', newest: int = NEWEST) -> Tuple[bytes, bytes, int]:
+    """Standard output, standard error and status of a run over these bytes; columns: None if no file is given; newest: the
+    newest version of job files that is read."""
     try:
         cells = {} if columns is None else read_columns(columns)
-        written = report(answers_of(read_jobs(jobs, cells), cells), form)
+        written = report(answers_of(read_jobs(jobs, cells, newest), cells), form)
     except (RefusedTable, RefusedFile) as refused:
         return b'', f'streamrun: {refused}\n'.encode(), 1
     return written.encode(), b'', 0

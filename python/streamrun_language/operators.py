@@ -53,8 +53,8 @@ def shape_of(node: e.Node, parameters: Tuple[str, ...]) -> Optional[str]:
     return f'{node.name}({first}, {second})' if isinstance(node, e.Call) else f'{first} {node.name} {second}'
 
 
-def read_operator(argument: Argument) -> Operator:
-    """The operator that an argument spells."""
+def read_operator(argument: Argument, version: int = 2) -> Operator:
+    """The operator that an argument spells in a file of this version."""
     kinds = [token.kind for token in argument.tokens]
     words = [token.text for token in argument.tokens]
     about = None
@@ -63,7 +63,7 @@ def read_operator(argument: Argument) -> Operator:
     elif kinds == [Kind.NAME, Kind.SYMBOL, Kind.NAME] and words[1] == '::':
         name = METHODS.get(''.join(words))
     else:
-        about = read_lambda(argument, Want.PAIR)
+        about = read_lambda(argument, Want.PAIR, version)
         name = BODIES.get(shape_of(about.body, about.parameters))
     if name == EXACT.name:
         return EXACT

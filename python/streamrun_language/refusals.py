@@ -29,6 +29,7 @@ class Cause(Enum):
     NOT_IDENTITY = 'not identity'
     NO_IDENTITY = 'no identity'
     NOT_SCALAR = 'not scalar'
+    NO_ROW = 'no row'
 
 
 @unique
@@ -64,6 +65,8 @@ class Wanted(Enum):
     COLON = '`:` of `? :`'
     MEMBER = '`.` and the name of a method or a constant'
     METHOD_OPEN = '`(` after the name of a method'
+    CELL_OPEN = '`(` and the name of a column, in double quotes'
+    ROW_OPEN = '`()` after `row`'
     STREAM = 'an inner stream: range(..), rangeClosed(..), of(..) or empty()'
     STREAM_END = 'the end of the lambda after the inner stream'
 

@@ -19,11 +19,13 @@ STAGES = {'map': Want.LONG, 'filter': Want.BOOLEAN, 'flatMap': Want.STREAM, 'lim
 TERMINALS = {'sum': None, 'count': None, 'min': None, 'max': None, 'findFirst': None, 'toArray': None,
              'reduce': OPERATOR, 'anyMatch': Want.BOOLEAN, 'allMatch': Want.BOOLEAN, 'noneMatch': Want.BOOLEAN}
 OPERATIONS = {**STAGES, **TERMINALS}
+# A terminal of later versions: the word, and the first version that has it.
+LATER = {'sumExact': 3}
 # How many numbers stand in an operation that has no argument, and may stand before the argument of one.
 NUMBERS = {'limit': 1, 'skip': 1, 'onFault': 1}
 NUMBERS_BEFORE = {'prefix': 2, 'reduce': 1}
 # What may stand after a terminal, by the version of a file.
-FALLBACKS = {1: (), 2: ('onFault',)}
+FALLBACKS = {1: (), 2: ('onFault',), 3: ('onFault',)}
 
 
 @dataclass
@@ -210,7 +212,8 @@ class JobReader(Reader):
     def call(self) -> Call:
         """A point and a stage or a terminal."""
         self.want('.', Wanted.POINT)
-        return self.operation(self.one_of(OPERATIONS, Wanted.OPERATION))
+        later = [it for it, first in LATER.items() if self.version >= first]
+        return self.operation(self.one_of([*OPERATIONS, *later], Wanted.OPERATION))
 
     def fallback(self) -> Optional[Call]:
         """What may stand after the terminal."""

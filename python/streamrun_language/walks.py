@@ -60,7 +60,7 @@ def length_of(part: Sequence[int]) -> int:
 def lambda_at(function: Callable, stage: int, place: int, value: int):
     """The value of a lambda at an item."""
     try:
-        return function(value)
+        return function(place, value)
     except Fault as fault:
         raise WalkFault(fault.args[0], stage, place) from None
 
@@ -133,8 +133,8 @@ def parts_of(job: Job, columns: Dict[str, List[int]], arrays: Dict[str, List[int
             yield (columns if isinstance(source, Column) else arrays)[source.name]
 
 
-def walk(job: Job, source: Selection, numbers: Dict[str, int]) -> Items:
-    """The items that come out of the last stage; numbers: of the jobs above that this one names."""
+def walk(job: Job, source: Selection, numbers: Dict[str, int], columns: Dict[str, List[int]]) -> Items:
+    """The items that come out of the last stage; numbers: of the jobs above that this one names; columns: the table."""
     items = None
     for stage, operation in enumerate(job.stages, 1):
         name, given = operation.name, operation.numbers
@@ -151,5 +151,5 @@ def walk(job: Job, source: Selection, numbers: Dict[str, int]) -> Items:
         else:
             stages = {'map': map_items, 'filter': filter_items, 'flatMap': flat_map_items, 'takeWhile': take_while,
                       'dropWhile': drop_while}
-            items = stages[name](items, stage, operation.of.function(numbers))
+            items = stages[name](items, stage, operation.of.function(numbers, columns))
     return source.items() if items is None else items

@@ -165,6 +165,14 @@ class Failures(unittest.TestCase):
         self.assertEqual((refused.line, refused.status), ('streamrun: jobs: line 2: syntax', 1))
         self.assertTrue(str(refused).startswith('streamrun: jobs: line 2: syntax'))
 
+    def test_a_language_reads_files_of_its_version(self):
+        jobs = 'version 3\na = column("p").map(p -> p * cell("q") + row()).toArray()'
+        self.assertEqual(list(run(jobs, {'p': [4, 5], 'q': [10, 20]}, language=3)['a']), [40, 101])
+        refused = self.failure(streamrun.JobsRefused, jobs, {'p': [4], 'q': [10]})
+        self.assertEqual(refused.line, 'streamrun: jobs: line 1: syntax')
+        refused = self.failure(streamrun.JobsRefused, jobs, {'p': [4]}, language=3)
+        self.assertEqual(refused.line, 'streamrun: jobs: line 2: unknown column')
+
     def test_a_refused_column_file_has_them_too(self):
         with tempfile.NamedTemporaryFile('w', suffix='.csv') as file:
             file.write('a,b\n1,2\n3,x\n')
@@ -179,8 +187,8 @@ class Failures(unittest.TestCase):
             def __str__(self):
                 return 'line 1, column 11\n  here'
 
-        def explain_jobs(text, columns):
-            seen.append((text, columns))
+        def explain_jobs(text, columns, newest):
+            seen.append((text, columns, newest))
             return Explanation()
         explain.explain_jobs = explain_jobs
         kept = {name: sys.modules.get(name) for name in ('streamrun_language', 'streamrun_language.explain')}
@@ -193,7 +201,7 @@ class Failures(unittest.TestCase):
                     del sys.modules[name]
                 else:
                     sys.modules[name] = module
-        self.assertEqual(seen, [(b'b = of(1).average()', b'a\n1\n')])
+        self.assertEqual(seen, [(b'b = of(1).average()', b'a\n1\n', 2)])
         self.assertEqual(str(refused), 'streamrun: jobs: line 1: syntax\nline 1, column 11\n  here')
 
     def test_a_refusal_goes_without_explain(self):

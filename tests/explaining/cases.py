@@ -6,7 +6,7 @@ import shutil
 import sys
 import tempfile
 
-from running import TOP, read, run as ran, write
+from running import LANGUAGES, TOP, read, run as ran, write
 from streamrun_language import explain
 
 from . import mistakes, tables
@@ -53,9 +53,9 @@ def all_mistakes():
 
 def wrong_mistakes(rows=None):
     """What is wrong with the explanations of job files that are written by hand."""
-    for (text, words), columns in all_mistakes() if rows is None else rows:
+    for (text, words, *newest), columns in all_mistakes() if rows is None else rows:
         data, line, column = unmarked(text)
-        found = explain.explain_jobs(data, columns)
+        found = explain.explain_jobs(data, columns, newest=newest[0] if newest else LANGUAGES[0])
         if found is None:
             yield f'{text!r} is accepted'
         elif (found.line, found.column) != (line, column):
@@ -103,16 +103,16 @@ def wrong_cures():
 
 
 def wrong_refusals(cases):
-    """Refusals that differ from what was worked out by hand, the cases being (jobs, columns, form, (out, err, status))."""
-    for jobs, columns, _, (_, err, status) in cases:
-        found = explain.explain_jobs(jobs.encode(), columns)
+    """Refusals that differ from what was worked out by hand, the cases being (jobs, columns, form, language, (out, err, status))."""
+    for jobs, columns, _, newest, (_, err, status) in cases:
+        found = explain.explain_jobs(jobs.encode(), columns, newest=newest)
         if (f'streamrun: {found.cause}\n' if found else '') != err or bool(found) != bool(status):
             yield f'{jobs[:100]!r}: {found and found.cause}, wanted {err}'
 
 
-def wrong_place(data, columns):
+def wrong_place(data, columns, newest):
     """What is wrong with the place of a refusal, or nothing."""
-    found = explain.explain_jobs(data, columns, 'jobs', 'columns')
+    found = explain.explain_jobs(data, columns, 'jobs', 'columns', newest)
     if found is None:
         return ''
     is_whole = found.file == 'columns' or found.text == line_of(data, found.line)

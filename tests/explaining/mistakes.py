@@ -54,7 +54,8 @@ WORDS = [
 # The line of a job: its name and its source.
 BEGINS = [
     ('# nothing\n  \u00a6.sum()', ['job above', 'NAME = SOURCE']),
-    ('version \u00a63\nx = of(1).sum()', ['version 2']),
+    ('version \u00a63\nx = of(1).sum()', ['--language 3']),
+    ('version \u00a64\nx = of(1).sum()', ['version 2']),
     ('version \u00a62;\nx = of(1).sum()', ['nothing after it']),
     ('x = of(1).sum()\nversion \u00a62', ['before all jobs']),
     ('long \u00a6x = of(1).sum()', ['no type', 'x =']),
@@ -196,7 +197,7 @@ LAMBDAS = [
     ('x = of(1).map(x -> Integer\u00a6.MAX_VALUE).sum()', ['2147483647']),
     ('x = of(1).map(x -> abs\u00a6(x)).sum()', ['Math.abs(..)']),
     ('x = of(1).map(x -> range\u00a6(0, x)).sum()', ['flatMap']),
-    ('x = of(1).map(x -> column\u00a6("price")).sum()', ['own source', 'mlr put']),
+    ('x = of(1).map(x -> column\u00a6("price")).sum()', ['cell("price")']),
     ('x = of(1).map(x -> count\u00a6(x)).sum()', ['No operation', '.count(..)']),
     ('x = of(1).map(x -> Math.PI\u00a6).sum()', ['fractions']),
     ('x = of(1).map(x -> Math.abs\u00a6).sum()', ['operands', 'Math.abs(x)']),
@@ -297,7 +298,25 @@ MEANINGS = [
     ('version 2\nx = of(1).toArray().\u00a6onFault(0)', ['leave onFault out']),
 ]
 
-MISTAKES = [*WORDS, *BEGINS, *ARGUMENTS, *ENDS, *LAMBDAS, *MEANINGS]
+# What version 3 has besides, in files of it, which are read with --language 3, and in others.
+ROWS = [
+    ('x = column("qty").map(q -> q * cell\u00a6("price")).sum()', ['cell is of version 3', '`version 3`', '--language 3']),
+    ('version 2\nx = of(1).map(q -> row\u00a6()).sum()', ['row is of version 3']),
+    ('x = column("qty").\u00a6sumExact()', ['version 3', '.reduce(0, Math::addExact)']),
+    ('x = column("qty").map(q -> q * column\u00a6("price")).sum()', ['cell("price")', '--language 3']),
+    ('version 3\nx = column("qty").map(q -> q * cell(\u00a6price)).sum()', ['double quotes', 'cell("price")'], 3),
+    ('version 3\nx = column("qty").map(q -> q * cell(\u00a6prize)).sum()', ['cell("price")'], 3),
+    ('version 3\nx = column("qty").map(q -> q * cell \u00a6"price").sum()', ['cell("price")'], 3),
+    ('version 3\nx = column("qty").map(q -> cell(\u00a6)).sum()', ['cell("qty")'], 3),
+    ('version 3\nx = column("qty").map(q -> q * cell(\u00a6"prize")).sum()', ['did you mean "price"'], 3),
+    ('version 3\nx = range(0, 2).map(q -> q * cell(\u00a6"price")).sum()', ['column("qty") alone', 'row()'], 3),
+    ('version 3\nx = of(1).map(q -> row\u00a6).sum()', ['row()'], 3), ('version 3\nx = of(1).map(q -> row(\u00a6q)).sum()', ['row()'], 3),
+    ('version 3\nx = of(1).map(\u00a6cell -> cell).sum()', ['No parameter is named cell'], 3),
+    ('version 3\nx = column("qty").reduce(\u00a6(a, b) -> a + cell("price"))', ['map before'], 3),
+    ('version 3\nversion \u00a63\nx = of(1).sum()', ['One line'], 3),
+]
+
+MISTAKES = [*WORDS, *BEGINS, *ARGUMENTS, *ENDS, *LAMBDAS, *MEANINGS, *ROWS]
 # The only mistakes without a table: no column is known.
 WITHOUT_TABLE = [('x = column(\u00a6"qty").sum()', ['--columns FILE'])]
 # Files that are no text, and the hint's words. The place is the first byte.

@@ -45,7 +45,7 @@ REFUSED = [
     (b'a\n1\n2\n', b's = column("a").map(x -> x +).sum()', 2, 1, 'streamrun: jobs: line 1: expression syntax at column 9'),
 ]
 
-# Job file, rows, reports of the parts, report of the whole as text.
+# Job file, rows and other words, reports of the parts, report of the whole as text.
 MERGED = [
     ('s = column("a").sum()', '1,1', ['[{"name":"s","number":9223372036854775807}]', '[{"name":"s","number":1}]'],
      's = -9223372036854775808'),
@@ -70,16 +70,23 @@ MERGED = [
     ('s = column("a").allMatch(x -> x > 5)', '2,2', ['[{"name":"s","truth":true}]', '[{"name":"s","truth":false}]'], 's = false'),
     ('s = column("a").noneMatch(x -> x > 5)', '2,2', ['[{"name":"s","truth":true}]'] * 2, 's = true'),
     ('s = range(0, 9).limit(2).sum()', '5,5', ['[{"name":"s","number":1}]'] * 2, 's = 1'),
-    ('version 2\ns = column("a").sum().onFault(-1)', '2,2', ['[{"name":"s","number":1}]', '[{"fault":"divide-by-zero","item":0,"name":"s","stage":1}]'],
+    ('version 2\ns = column("a").map(x -> 1 / x).sum().onFault(-1)', '2,2', ['[{"name":"s","number":1}]', '[{"fault":"divide-by-zero","item":0,"name":"s","stage":1}]'],
      's = -1'),
     ('version 2\nt = range(0, 0).min()\ns = column("a").map(x -> x + $t).sum().onFault(-1)', '2,2',
      ['[{"name":"t","optional":null},{"name":"s","unusable":"t"}]'] * 2, 't = OptionalLong.empty\ns = unusable t'),
     ('s = column("one, two").count()\nt = column("").max()', '1', ['[{"name":"s","number":1},{"name":"t","optional":7}]'],
      's = 1\nt = OptionalLong[7]'),
     ('# none', '1,2', ['[]'] * 2, ''),
+    ('s = column("a").flatMap(x -> of(x, x)).count()', '1,0', ['[{"name":"s","number":2}]', '[{"name":"s","number":0}]'], 's = 2'),
+    ('version 2\nd = range(0, 5).count().onFault(-1)', '1,1', ['[{"name":"d","number":-1}]'] * 2, 'd = -1'),
+    ('d = range(0, 3).prefix(1, 9, sum).sum()', '1,1', ['[{"fault":"out-of-array","item":null,"name":"d","stage":1}]'] * 2,
+     'd = fault out-of-array stage 1 item -'),
+    ('version 3\ns = column("a").max()\nn = of(5, 6).map(x -> row()).toArray()', '1,1 --language 3',
+     ['[{"name":"s","optional":1},{"array":[0,1],"name":"n"}]', '[{"name":"s","optional":2},{"array":[0,1],"name":"n"}]'],
+     's = OptionalLong[2]\nn = [0, 1]'),
 ]
 
-# Job file, rows, reports, status, and what the line says after 'streamrun-merge: ', where JOBS and LAST are the job file and the
+# Job file, rows and other words, reports, status, and what the line says after 'streamrun-merge: ', where JOBS and LAST are the job file and the
 # last report.
 SUM, ONE = 's = column("a").sum()', '[{"name":"s","number":1}]'
 NOT_MERGED = [
@@ -105,6 +112,46 @@ NOT_MERGED = [
     ('s = column("a").toArray()\nt = result(s).sum()', '1', [ONE], 1, 'JOBS: t can\'t be merged: it names a job over a column'),
     ('\n# c\ns = column("a").sum', '1', [ONE], 1, 'JOBS: line 3 is refused; streamrun says why'),
     ('.sum()', '1', [ONE], 1, 'JOBS: line 1 is refused; streamrun says why'),
+    ('version 3\n' + SUM, '1', [ONE], 1, 'JOBS: line 1 is refused; streamrun says why'),
+    ('version 3\ns = column("a").map(x -> x * cell("b")).sum()', '1 --language 3', [ONE], 1,
+     'JOBS: s can\'t be merged: a lambda over a column with cell or row()'),
+    ('version 3\n' + SUM + '\nt = column("a").anyMatch(x -> row() > 3)', '1 --language 3', [ONE], 1,
+     'JOBS: t can\'t be merged: a lambda over a column with cell or row()'),
+    ('version 3\ns = column("a").sumExact()', '1 --language 3', [ONE], 1, 'JOBS: s can\'t be merged: an exact sum of a column'),
+    (SUM, '4611686018427387905', [ONE], 1, 'more rows than a table has'),
+    # Jobs that read no column.
+    *((f'd = {job}', '1,1', [f'[{left}]', f'[{right}]'], 1, 'LAST: d has another answer than in the reports before') for job, left, right in (
+        ('range(0, 3).sum()', '{"name":"d","number":3}', '{"name":"d","number":4}'),
+        ('range(0, 3).sum()', '{"name":"d","number":4}', '{"name":"d","number":3}'),
+        ('range(0, 3).max()', '{"name":"d","optional":2}', '{"name":"d","optional":null}'),
+        ('range(0, 3).anyMatch(x -> x > 1)', '{"name":"d","truth":true}', '{"name":"d","truth":false}'),
+        ('range(0, 3).toArray()', '{"array":[0,1,2],"name":"d"}', '{"array":[0,1],"name":"d"}'),
+        ('range(0, 3).map(x -> 1 / x).sum()', '{"name":"d","number":3}', '{"fault":"divide-by-zero","item":0,"name":"d","stage":1}'),
+        ('range(0, 3).map(x -> 1 / x).sum()', '{"fault":"divide-by-zero","item":0,"name":"d","stage":1}',
+         '{"fault":"divide-by-zero","item":1,"name":"d","stage":1}'))),
+    ('d = range(0, 3).sum()', '1,1', ['[{"name":"d","number":3}]', '[{"name":"d","optional":3}]'], 1, 'LAST: d can\'t have this answer'),
+    # What no job can answer.
+    *((f's = {job}', '5', [f'[{report}]'], 1, 'LAST: s can\'t have this answer') for job, report in (
+        ('column("a").sum()', '{"name":"s","optional":1}'), ('column("a").sum()', '{"name":"s","truth":true}'),
+        ('column("a").sum()', '{"array":[1],"name":"s"}'), ('column("a").toArray()', '{"name":"s","number":1}'),
+        ('column("a").sum()', '{"name":"s","unusable":"s"}'), ('column("a").sum()', '{"fault":"overflow","item":0,"name":"s","stage":7}'),
+        ('column("a").map(x -> 1 / x).sum()', '{"fault":"out-of-array","item":0,"name":"s","stage":1}'),
+        ('column("a").map(x -> 1 / x).sum()', '{"fault":"divide-by-zero","item":null,"name":"s","stage":1}'),
+        ('column("a").map(x -> 1 / x).sum()', '{"fault":"divide-by-zero","item":5,"name":"s","stage":1}'),
+        ('column("a").map(x -> 1 / x).sum()', '{"fault":"divide-by-zero","item":0,"name":"s","stage":2}'),
+        ('column("a").sum()', '{"fault":"source-too-long","item":null,"name":"s","stage":0}'),
+        ('column("a").filter(x -> x > 1).toArray()', '{"array":[1,2,3,4,5,6],"name":"s"}'),
+        ('column("a").count()', '{"name":"s","number":6}'), ('column("a").count()', '{"name":"s","number":-1}'),
+        ('range(0, 3).sum()', '{"fault":"overflow","item":0,"name":"s","stage":1}'))),
+    *((f's = column("a").{call}', '0', [f'[{report}]'], 1, 'LAST: s can\'t have this answer') for call, report in (
+        ('min()', '{"name":"s","optional":9}'), ('findFirst()', '{"name":"s","optional":9}'), ('sum()', '{"name":"s","number":9}'),
+        ('anyMatch(x -> x > 1)', '{"name":"s","truth":true}'), ('allMatch(x -> x > 1)', '{"name":"s","truth":false}'),
+        ('noneMatch(x -> x > 1)', '{"name":"s","truth":false}'), ('flatMap(x -> of(x, x)).count()', '{"name":"s","number":1}'),
+        ('map(x -> 1 / x).sum()', '{"fault":"divide-by-zero","item":0,"name":"s","stage":1}'))),
+    ('a = of(1).sum()\nb = column("a").map(x -> x + $a).sum()', '1', ['[{"name":"a","number":1},{"name":"b","unusable":"a"}]'], 1,
+     'LAST: b can\'t have this answer'),
+    ('a = range(0, 0).min()\nb = range(0, 3).map(x -> x + $a).sum()', '1', ['[{"name":"a","optional":null},{"name":"b","number":3}]'], 1,
+     'LAST: b can\'t have this answer'),
 ]
 
 PLAN = '''total = column("a").sum()
@@ -153,7 +200,7 @@ def merge_of(test, folder, text, rows, reports):
     """The job file, the last report, and what the merge gives."""
     jobs = write(folder, 'jobs', text.encode())
     paths = [write(folder, f'{number}.json', report.encode() + b'\n') for number, report in enumerate(reports)]
-    return jobs, paths[-1], one_run(test.merger, '--rows', rows, jobs, *paths)
+    return jobs, paths[-1], one_run(test.merger, '--rows', *rows.split(), jobs, *paths)
 
 
 def real(*arguments, **more):

@@ -1,6 +1,6 @@
 """Random job files with column files.
 
-    generate(seed, index, kinds, most)   (bytes of a job file, bytes of a column file or None)
+    generate(seed, index, kinds, most)   (bytes of a job file, bytes of a column file or None, the number of --language)
 
 Equal arguments give equal files. kinds are keys of KINDS; most is about how many items a source has whose walk
 doesn't end early. Lengths, numbers and places are mostly those at which something changes: the ends of batches, pieces and
@@ -10,6 +10,7 @@ import random
 
 from streamrun_language.operators import OPERATORS
 from streamrun_language.values import MAX, MIN
+from running import LANGUAGES
 from random_lambdas import NUMBERS, LambdaWriter
 
 LENGTHS = sorted({*range(10), 31, 33, 62, 100, 3000, 10000, 100000,
@@ -41,7 +42,8 @@ class Writer(LambdaWriter):
         super().__init__(random.Random(f'{seed}/{index}/{",".join(kinds)}/{most}'))
         self.kinds, self.most = kinds, most
         self.arrays, self.columns = [], {}
-        self.version = 2 if self.often(0.3) else 1
+        self.version = LANGUAGES[-1] if 'cells' in kinds and self.often(0.4) else 2 if self.often(0.3) else 1
+        self.uses_rows = self.version == LANGUAGES[-1]
 
     def length(self, most=None):
         most = self.most if most is None else most
@@ -53,6 +55,8 @@ class Writer(LambdaWriter):
         """A boolean of x that is often near true or near false, and changes at few values."""
         if self.often(0.4):
             return self.boolean(self.random.randint(0, 2))[0]
+        if self.uses_rows and self.often(0.5):
+            return f'{self.row()} {self.pick("==", "!=", "<", "<=", ">", ">=")} {self.pick(0, 1, 5, 9, 50, self.place(source.length))}'
         if self.often(0.4):
             return f'x % {self.pick(2, 3, 7, 10, 64, 1000)} {self.pick("==", "!=", "<")} {self.pick(0, 0, 1)}'
         return f'x {self.pick("==", "!=", "<", "<=", ">", ">=")} {self.value_in(source)}'
@@ -75,9 +79,16 @@ class Writer(LambdaWriter):
                          'flatMap(x -> of(x, 1 / (x - {})))', 'map(x -> Math.floorMod(x, x - {}))',
                          'map(x -> x == {} ? Math.negateExact(Long.MIN_VALUE) : x)',
                          'flatMap(x -> x == {} ? 0 : 1)' if self.often(0.02) else 'filter(x -> x != {})')
-        return form.format(value)
+        if self.uses_rows and self.often(0.4):
+            form = self.pick('map(x -> 10 / ({1} - {0}))', 'map(x -> x % {1})', 'filter(x -> {1} != {0} && 7 / {1} >= 0)',
+                             'flatMap(x -> of(x, {0} / {1}))', 'map(x -> {1} == {0} ? 1 / (x - x) : x)', 'map(x -> Math.multiplyExact(x, {1}))')
+            value = self.place(source.length)
+        return form.format(value, self.row() if self.uses_rows else '')
 
     def flat_map(self):
+        if self.uses_rows and self.often(0.5):
+            return 'flatMap(x -> {})'.format(self.pick('of({0})', 'of({0}, x)', 'of(x, {0}, {1})', 'range(0, {0} & 3)', 'rangeClosed({0}, {0})',
+                                                       'range(x, x + ({0} & 1))').format(self.row(), self.row()))
         return 'flatMap(x -> {})'.format(self.pick(
             'of(x)', 'of()', 'empty()', 'of(x, x + 1)', 'of(x, -x, x * x)', 'range(0, x & 3)', 'range(x, x + 2)',
             'rangeClosed(1, x & 1)', 'LongStream.range(0, x % 5)', 'LongStream.of(x, 7)', 'range(x - 1, x)', 'rangeClosed(x, x)',
@@ -135,13 +146,16 @@ class Writer(LambdaWriter):
         form = self.random.random()
         if self.uses_names and self.arrays and form < 0.4:
             return Source(f'result({self.random.choice(self.arrays)})', 10, lambda at: at)
-        if 'columns' in self.kinds and form < 0.5 and length:
+        if 'columns' in self.kinds and form < (0.7 if self.uses_rows else 0.5) and length:
             return self.column(length)
         return self.range(length) if form < 0.75 or length > 1024 else self.of(length)
 
     def source(self, most=None):
         length = self.length(most)
-        return self.concat(length) if self.often(0.15) else self.plain(length)
+        found = self.concat(length) if self.often(0.15) else self.plain(length)
+        is_column = found.text.startswith('column(')
+        self.cells = list(self.columns) if is_column or 'refused' in self.kinds and self.often(0.02) else []
+        return found
 
     # Operations
 
@@ -172,7 +186,7 @@ class Writer(LambdaWriter):
         if name == 'reduce0':
             return 'reduce({}, {})'.format(*self.operator(True))
         if name == 'exact':
-            return f'reduce(0, {self.random.choice(SPELLED[name])})'
+            return 'sumExact()' if self.uses_rows and self.often(0.5) else f'reduce(0, {self.random.choice(SPELLED[name])})'
         if name.endswith('Match'):
             return f'{name}(x -> {self.condition(source)})'
         return f'{name}()'
@@ -299,12 +313,13 @@ class Writer(LambdaWriter):
         return between.join(parts) + self.pick('', '', '', ';', ' ;')
 
     def job(self, name, kind):
+        self.cells = []
         parts = KINDS[kind](self)
         if parts[-1] == 'toArray()':
             self.arrays.append(name)
         elif 'Match' not in parts[-1]:
             self.numbers.append(name)
-            if self.version == 2 and self.often(0.4):
+            if self.version > 1 and self.often(0.4):
                 parts.append(f'onFault({self.number()})')
         if 'refused' in self.kinds and self.often(0.01):
             parts.append(self.pick('onFault(0)', 'onFault(9223372036854775808)', 'onFault()'))
@@ -313,19 +328,24 @@ class Writer(LambdaWriter):
     def file(self):
         if 'columns' in self.kinds and 'tables' not in self.kinds and self.often(0.5):
             self.make_columns(self.length(min(self.most, 5000)))
-        kinds = [it for it in self.kinds if it not in ('refused', 'columns')] or ['values']
+        kinds = [it for it in self.kinds if KINDS[it]] or ['values']
         count = self.random.randint(1, 6)
         if self.random.choice(kinds) == 'many':
             count, kinds = self.random.randint(100, 256), ['many', *(['names'] if 'names' in kinds else [])]
             self.most = min(self.most, MOST_ITEMS_OF_MANY)
         names = [self.pick(f'j{at}', f'j{at}', f'_{at}', f'range{at}') for at in range(count)]
-        lines = [self.pick('version 2', 'version 2', ' version\t2', '# c\n\nversion 2')] if self.version == 2 else []
+        lines = [self.pick('version {0}', 'version {0}', ' version\t{0}', '# c\n\nversion {0}').format(self.version)] if self.version > 1 else []
         lines += [self.job(name, self.random.choice(kinds)) for name in names]
         text = self.pick('\n', '\n', '\n', '\r\n', '\n\n').join(lines) + self.pick('\n', '\n', '', '\r\n')
         data = text.encode()
         if 'refused' in self.kinds and (len(self.kinds) == 1 or self.often(0.2)):
             data = self.damaged(data)
         return data, self.column_file() if self.columns else None
+
+    def language(self):
+        """The number of --language for the file: one of those that read it, and one in a hundred of those that don't."""
+        asks_for_less = self.version < LANGUAGES[-1] or self.often(0.01)
+        return self.random.choice(LANGUAGES) if asks_for_less else LANGUAGES[-1]
 
     def column_file(self):
         names = list(self.columns)
@@ -374,23 +394,26 @@ class Writer(LambdaWriter):
             piece = self.pick(b'', b'', b' ', b'(', b')', b',', b'.', b'$', b'$j0', b'x', b'y', b'0', b'-', b'->', b'=', b'"', b'\\',
                               b'\n', b'\r', b'\x00', b'\xff', b'++', b'&&', b'&', b'?', b':', b'Math', b'Long.', b'true', b'1.5',
                               b'9223372036854775808', b'-9223372036854775808', b'.sum()', b'LongStream.', b'# ', b'//', b';',
-                              b'map', b'limit', b'long', b'::', b'[', b'007', data[at:at + 7], data[max(at - 9, 0):at])
+                              b'map', b'limit', b'long', b'::', b'[', b'007', b'cell', b'row', b'version 3\n', b'sumExact', data[at:at + 7], data[max(at - 9, 0):at])
             data = data[:at] + piece + data[to:]
         return data
 
 
-def quoted(name):
-    return '"' + name + '"' if ',' in name or not name else name
+def quoted(field):
+    """A field of a table as it may stand there."""
+    return f'"{field}"' if field == '' or ',' in str(field) else str(field)
 
 
-# What stands in a file: jobs of these kinds; 'columns' gives a column file too, 'refused' damages some of the bytes.
+# What stands in a file: jobs of these kinds; 'columns' gives a column file too, 'cells' makes some files ones of the last version, with
+# cells, places and its terminals, 'refused' damages some of the bytes.
 KINDS = {'values': Writer.values, 'folds': Writer.folds, 'flatmaps': Writer.flat_maps, 'slices': Writer.slices,
          'finds': Writer.finds, 'faults': Writer.faults, 'prefix': Writer.prefixes, 'names': Writer.named,
          'sums': Writer.sums, 'long': Writer.long_sources, 'endless': Writer.endless, 'many': Writer.values, 'tables': Writer.tables,
-         'columns': None, 'refused': None}
+         'columns': None, 'cells': None, 'refused': None}
 # Those that take long, or that few programs can do, are only there if they are asked for.
 DEFAULT_KINDS = [kind for kind in KINDS if kind not in ('tables', 'endless')]
 
 
 def generate(seed, index, kinds, most):
-    return Writer(seed, index, kinds, most).file()
+    writer = Writer(seed, index, kinds, most)
+    return (*writer.file(), writer.language())

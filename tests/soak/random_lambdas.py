@@ -9,10 +9,12 @@ LONG_OPERATORS = '| ^ & << >> >>> + - * / %'.split()
 
 
 class LambdaWriter:
-    """numbers: the jobs above whose answers may stand in lambdas, if uses_names says so."""
+    """numbers: the jobs above whose answers may stand in lambdas, if uses_names says so; uses_rows: whether places may stand there,
+    and the cells of these columns."""
 
     def __init__(self, chance):
         self.random, self.numbers, self.uses_names = chance, [], False
+        self.uses_rows, self.cells = False, []
 
     def pick(self, *choices):
         return self.random.choice(choices)
@@ -29,7 +31,13 @@ class LambdaWriter:
     def leaf(self):
         if self.uses_names and self.numbers and self.often(0.4):
             return '$' + self.random.choice(self.numbers)
+        if self.uses_rows and self.often(0.4):
+            return self.row()
         return 'x' if self.often(0.6) else self.number()
+
+    def row(self):
+        """A cell, if the job has some, or the place of the item."""
+        return f'cell("{self.random.choice(self.cells)}")' if self.cells and self.often(0.85) else 'row()'
 
     def within(self, text, level, least):
         """Text that may stand where operators of a level may, with parentheses if they are wanted."""

@@ -3,10 +3,12 @@ give them, and the answers of examples/."""
 import os
 import re
 
-from running import TESTS, Tally, job_files, read
+from running import LANGUAGES, TESTS, Tally, job_files, newest_of, read
 
 REFUSED_TEXTS = os.path.join(TESTS, 'soak', 'refused.txt')
 COLUMNS = b'a,b\n3,10\n0,20\n-5,30\n'
+# The lines of a file that are skipped, and the one that says its version.
+SAYS_VERSION = re.compile(r'((?:[ \t]*(?:(?:#|//).*)?\r?\n)*)[ \t]*version[ \t]+([0-9]+)[ \t]*\r?(?:\n|$)')
 DIVISION = 'fault divide-by-zero stage {} item {}'.format
 
 # (what stands after 'j = ', the answer)
@@ -88,6 +90,67 @@ ANSWERS = [
     ('of(9223372036854775807, 1, 0).filter(x -> 1 / x > -1).reduce(0, (u, v) -> (Math.addExact(u, (v))))',
      'fault overflow stage 2 item 1'),
     ('empty().reduce(0, Math::addExact)', '0'),
+]
+
+# (what stands after 'j = ' in a file of version 3, the answer); of the column a 3, 0 and -5 stand in rows 0 to 2, of b 10, 20 and 30
+LATER_ANSWERS = [
+    # Cells, in each place of a lambda.
+    ('column("a").map(x -> x * cell("b")).toArray()', '[30, 0, -150]'),
+    ('column("a").map(x -> -cell("b") - cell("a")).toArray()', '[-13, -20, -25]'),
+    ('LongStream.column("a").map(x -> cell("b")).sum()', '60'),
+    ('column("a").filter(x -> cell("b") >= 20).toArray()', '[0, -5]'),
+    ('column("b").filter(x -> !(cell("a") == 0)).map(x -> cell("b") + cell("a")).toArray()', '[13, 25]'),
+    ('column("a").flatMap(x -> of(cell("b"), x)).toArray()', '[10, 3, 20, 0, 30, -5]'),
+    ('column("a").flatMap(x -> range(cell("b"), cell("b") + x)).toArray()', '[10, 11, 12]'),
+    ('column("b").flatMap(x -> rangeClosed(0, cell("a"))).toArray()', '[0, 1, 2, 3, 0]'),
+    ('column("a").takeWhile(x -> cell("b") < 30).count()', '2'),
+    ('column("a").dropWhile(x -> cell("b") < 30).toArray()', '[-5]'),
+    ('column("a").anyMatch(x -> cell("b") == 30)', 'true'),
+    ('column("a").allMatch(x -> cell("b") > 10)', 'false'),
+    ('column("a").noneMatch(x -> cell("b") + x == 13)', 'false'),
+    # An item keeps its row through all stages.
+    ('column("a").skip(1).map(x -> cell("b")).toArray()', '[20, 30]'),
+    ('column("a").limit(2).filter(x -> x == 0).map(x -> cell("b")).toArray()', '[20]'),
+    ('column("a").map(x -> 7).dropWhile(x -> cell("a") > 0).map(x -> cell("b") + x).toArray()', '[27, 37]'),
+    ('column("b").prefix(Long::sum).map(x -> x + cell("b")).toArray()', '[20, 50, 90]'),
+    ('column("a").flatMap(x -> of(0, 1)).filter(x -> x == 1).map(x -> cell("a")).toArray()', '[3, 0, -5]'),
+    ('column("a").filter(x -> x != 0).prefix(0, 2, max).map(x -> x * 100 + cell("b")).toArray()', '[310, 330]'),
+    # Their faults are the ones of their operators; of two the left operand's comes first.
+    ('column("b").map(x -> x / cell("a")).toArray()', DIVISION(1, 1)),
+    ('column("b").map(x -> cell("a") == 0 ? 0 : x / cell("a")).toArray()', '[3, 0, -6]'),
+    ('column("b").filter(x -> x > 10 && x / cell("a") < 0).toArray()', DIVISION(1, 1)),
+    ('column("b").filter(x -> cell("a") != 0 && x / cell("a") < 0).toArray()', '[30]'),
+    ('column("b").map(x -> Math.multiplyExact(x, cell("a") + 9223372036854775800)).toArray()', 'fault overflow stage 1 item 0'),
+    ('column("a").flatMap(x -> of(1, 60 / cell("a"))).limit(3).toArray()', DIVISION(1, 1)),
+    # Places, over any source.
+    ('of(5, 6, 7).map(x -> row()).toArray()', '[0, 1, 2]'),
+    ('range(7, 10).filter(x -> row() != 1).toArray()', '[7, 9]'),
+    ('concat(of(5, 6), range(0, 2)).map(x -> x * 10 + row()).toArray()', '[50, 61, 2, 13]'),
+    ('of(4, 4, 4).skip(1).map(x -> x + row()).toArray()', '[5, 6]'),
+    ('of(9, 8).flatMap(x -> of(x, row())).toArray()', '[9, 0, 8, 1]'),
+    ('of(9, 8, 7).flatMap(x -> range(0, row())).toArray()', '[0, 0, 1]'),
+    ('of(2, 4, 6).prefix(Long::sum).map(x -> x - row()).toArray()', '[2, 5, 10]'),
+    ('of(2, 0, 2).takeWhile(x -> row() < 2).toArray()', '[2, 0]'),
+    ('of(2, 0, 2).dropWhile(x -> row() < 2).toArray()', '[2]'),
+    ('of(2, 0, 2).anyMatch(x -> x == row())', 'true'),
+    ('of(7, 7).map(x -> 1 / row()).toArray()', DIVISION(1, 0)),
+    ('range(0, 4611686018427387904).skip(4611686018427387903).map(x -> row()).sum()', '4611686018427387903'),
+    ('range(0, 4611686018427387904).map(x -> row() * 2).skip(3).findFirst()', 'OptionalLong[6]'),
+    ('column("a").map(x -> x + row() * cell("b")).toArray()', '[3, 20, 55]'),
+    ('empty().map(x -> row()).toArray()', '[]'),
+    # The exact sum by its word.
+    ('of(-5, 9223372036854775807, 3).sumExact()', '9223372036854775805'),
+    ('of(9223372036854775807, 1, -5).sumExact()', 'fault overflow stage 1 item 1'),
+    ('of(9223372036854775807, 1, -5).sumExact().onFault(-4)', '-4'),
+    ('of(9223372036854775807, 2).flatMap(x -> of(x, 1)).sumExact()', 'fault overflow stage 2 item 0'),
+    ('empty().sumExact()', '0'),
+    ('column("a").filter(x -> cell("b") > 10).sumExact();', '-5'),
+]
+
+# (a job file of version 3, its report)
+LATER_REPORTS = [
+    ('# c\n\n version \t 3 \r\ncell = of(4).sumExact()\nrow = column("b").map(x -> $cell * row() + cell("a")).toArray()\n'
+     'version = result(row).map(x -> x - row()).sum()\n', 'cell = 4\nrow = [3, 4, 3]\nversion = 7\n'),
 ]
 
 # (a job file, its report)
@@ -242,67 +305,86 @@ CELLS = [
 
 
 def refused_texts():
-    """(a job file, a column file or None, the line and the cause) of each row of refused.txt"""
-    front, columns = '', None
+    """(a job file, a column file or None, the number of --language, the line and the cause) of each row of refused.txt, for each
+    language that it stands for"""
+    front, columns, languages = '', None, LANGUAGES
     for row in read(REFUSED_TEXTS).decode().splitlines():
         word, _, text = row.partition(' => ')
         # In a text `\\n` and others mean what they mean in Python.
         if row.startswith('front:'):
-            front, columns = unescaped(row[len('front: '):]), None
+            front, columns, languages = unescaped(row[len('front: '):]), None, LANGUAGES
+        elif row.startswith('language: '):
+            languages = [int(row[len('language: '):])]
         elif row.startswith('columns: '):
             columns = unescaped(row[len('columns: '):]).encode()
         elif text and not row.startswith('#'):
             line, _, cause = word.partition(' ') if word[0].isdigit() else (front.count('\n') + 1, '', word)
-            yield front + unescaped(text), columns, f'{line}: {cause}'
+            yield from ((front + unescaped(text), columns, it, f'{line}: {cause}') for it in languages)
 
 
 def unescaped(text):
     return text.encode('ascii').decode('unicode_escape')
 
 
-def of_both_versions(files):
-    """These files, each with what it has to give, and each that is of version 1 once more as one of version 2."""
+def of_all_versions(files):
+    """(a job file, the number of --language, what it has to give) of these files, as they are and as ones of each later version, in
+    each language that reads them."""
     for jobs, wanted in files:
-        yield jobs, wanted
-        if not re.match(r'\ufeff?(?:[ \t]*(?:#.*)?\r?\n)*[ \t]*version[ \t]+2[ \t]*\r?(?:\n|$)', jobs):
-            mark, text = ('\ufeff', jobs[1:]) if jobs.startswith('\ufeff') else ('', jobs)
-            yield f'{mark}version 2\n{text}', wanted
+        mark, text = ('\ufeff', jobs[1:]) if jobs.startswith('\ufeff') else ('', jobs)
+        said = SAYS_VERSION.match(text)
+        without = said[1] + text[said.end():] if said else text
+        first = int(said[2]) if said else 1
+        later = [f'{mark}version {version}\n{without}' for version in range(first + 1, LANGUAGES[-1] + 1)]
+        for file in [jobs, *later]:
+            yield from ((file, it, wanted) for it in LANGUAGES if it >= newest_of(file.encode()))
 
 
 def cases():
-    """(a job file, a column file or None, 'text' or 'json', and the wanted standard output, standard error and status)"""
-    for jobs, text in of_both_versions([(f'j = {job}\n', f'j = {answer}\n') for job, answer in ANSWERS] + REPORTS):
-        yield jobs, COLUMNS, 'text', (text, '', 0)
-    for jobs, text in of_both_versions(JSON):
-        yield jobs, None, 'json', (text, '', 0)
-    for job, cause in REFUSED:
-        yield f'j = {job}', None, 'text', ('', f'streamrun: jobs: line 1: {cause}\n', 1)
+    """(a job file, a column file or None, 'text' or 'json', the number of --language, and the wanted standard output, standard error
+    and status)"""
+    for jobs, newest, text in of_all_versions([(f'j = {job}\n', f'j = {answer}\n') for job, answer in ANSWERS] + REPORTS + LATER_REPORTS):
+        yield jobs, COLUMNS, 'text', newest, (text, '', 0)
+    for jobs, newest, text in of_all_versions(JSON):
+        yield jobs, None, 'json', newest, (text, '', 0)
+    for job, answer in LATER_ANSWERS:
+        yield f'version 3\nj = {job}\n', COLUMNS, 'text', LANGUAGES[-1], (f'j = {answer}\n', '', 0)
+    for newest in LANGUAGES:
+        for job, cause in REFUSED:
+            yield f'j = {job}', None, 'text', newest, ('', f'streamrun: jobs: line 1: {cause}\n', 1)
+        for columns, cause in REFUSED_COLUMNS:
+            # The job file is not read at all.
+            yield 'junk', columns, 'text', newest, ('', f'streamrun: columns: {cause}\n', 1)
     for jobs, cause in REFUSED_FILES:
-        yield jobs, None, 'text', ('', f'streamrun: jobs: line {cause}\n', 1)
-    for jobs, columns, cause in refused_texts():
-        yield jobs, columns, 'text', ('', f'streamrun: jobs: line {cause}\n', 1)
-    for columns, cause in REFUSED_COLUMNS:
-        # The job file is not read at all.
-        yield 'junk', columns, 'text', ('', f'streamrun: columns: {cause}\n', 1)
+        yield jobs, None, 'text', LANGUAGES[0], ('', f'streamrun: jobs: line {cause}\n', 1)
+        if newest_of(jobs.encode()) == LANGUAGES[0]:
+            yield jobs, None, 'text', LANGUAGES[-1], ('', f'streamrun: jobs: line {cause}\n', 1)
+    for jobs, columns, newest, cause in refused_texts():
+        yield jobs, columns, 'text', newest, ('', f'streamrun: jobs: line {cause}\n', 1)
     for columns, source, values in CELLS:
-        yield f'j = {source}.toArray()', columns, 'text', (f'j = {values}\n', '', 0)
+        yield f'j = {source}.toArray()', columns, 'text', LANGUAGES[0], (f'j = {values}\n', '', 0)
 
 
 def examples():
+    """The files of examples/ and tests/, in each language that they are for."""
     for jobs, table in job_files():
-        name, text, columns = jobs[:-len('.jobs')], read(jobs).decode(), None if table is None else read(table)
-        if os.path.exists(name + '.report'):
-            yield text, columns, 'text', (read(name + '.report').decode(), '', 0)
-        else:
-            yield text, columns, 'text', ('', read(name + '.fault').decode(), 1)
+        name, text, columns = jobs[:-len('.jobs')], read(jobs), None if table is None else read(table)
+        wanted = ((read(name + '.report').decode(), '', 0) if os.path.exists(name + '.report') else
+                  ('', read(name + '.fault').decode(), 1))
+        for newest in LANGUAGES:
+            if newest >= newest_of(text):
+                yield text.decode(), columns, 'text', newest, wanted
         if os.path.exists(name + '.json'):
-            yield text, columns, 'json', (read(name + '.json').decode(), '', 0)
+            yield text.decode(), columns, 'json', newest_of(text), (read(name + '.json').decode(), '', 0)
 
 
 def compare_all(outcome_of):
-    """Compares outcome_of, which is called as the model's `outcome` is, with all answers."""
+    """Compares outcome_of, which is called as the model's `outcome` is, with all answers; it gives None for a file that takes too
+    long."""
     tally = Tally('worked answers')
-    for jobs, columns, form, wanted in [*cases(), *examples()]:
-        out, err, status = outcome_of(jobs.encode(), columns, form)
-        tally.compare(f'{jobs[:200]!r}', (out.decode(), err.decode(), status), wanted)
+    for jobs, columns, form, newest, wanted in [*cases(), *examples()]:
+        got = outcome_of(jobs.encode(), columns, form, newest)
+        if got is None:
+            print(f'worked answers: left out, since they take too long: {jobs[:100]!r}')
+        else:
+            tally.compare(f'{jobs[:200]!r}', (got[0].decode(), got[1].decode(), got[2]), wanted)
     return tally.end()

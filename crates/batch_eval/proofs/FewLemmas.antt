@@ -1,7 +1,8 @@
 -- The values of inner streams, from the registers of their operands, one after the other.
-use Rattle.std.proofs.Common.{◌≡◌, ℕ, zero, suc, ◌+◌, ◌*◌, ◌-◌, ◌/◌, ◌<◌, ◌≤◌, ℤ, pos, List, [], ◌∷◌, ◌++◌, length, map, take, Option, Some, Result, Ok, refl, sym, ap, subst, ◌∙◌, append_assoc, arith, add-one, add-zero}
+use Rattle.std.proofs.Common.{◌≡◌, ℕ, zero, suc, ◌+◌, ◌*◌, ◌-◌, ◌/◌, ◌<◌, ◌≤◌, ℤ, pos, List, [], ◌∷◌, ◌++◌, length, get_or, take, Option, Some, Result, Ok, refl, sym, ap, subst, ◌∙◌, append_assoc, arith, add-one, add-zero}
 use Rattle.std.proofs.Math.Nat.{le-div_iff_mul-le}
-use Rattle.std.proofs.lemmas.List.{append-nil, get_or-append_right, get_or-take, get_or_append_left, take_all}
+use Rattle.std.proofs.lemmas.List.{append-nil, get_or-append_right, get_or_append_left, take_all}
+use Rattle.std.proofs.lemmas.Option.{get_or_from_slice_get}
 use Rattle.std.specs.List.{slice_get}
 use mathlib.Core.Logic.{dite}
 use native.Mathlib.Decide.{ℕ_discrete}
@@ -11,7 +12,7 @@ use Rattle.lambda_values.specs.Term.{Long}
 use Rattle.lambda_values.specs.Value.{long_value}
 use Rattle.lambda_values.specs.declared.expr.LongExpr.{LongExpr}
 use Rattle.lambda_values.specs.declared.fault.FaultKind.{FaultKind}
-use Rattle.trace.specs.declared.item.Item.{Item}
+use Rattle.lambda_values.specs.declared.item.Item.{Item}
 use Rattle.trace.specs.declared.item.End.{End}
 use Rattle.trace.specs.declared.item.End.TheVariants as end
 use Rattle.trace.specs.Trace.{Trace, trace, each}
@@ -19,7 +20,7 @@ use Rattle.trace.specs.Stages.{at_place, flat_map, flattened, of_item}
 use Rattle.batch_eval.specs.Lanes.{at}
 use Rattle.batch_eval.specs.Batches.{gathered, item_at, lanes, origin_at}
 use Rattle.batch_eval.specs.InnerColumns.{ArePut, HaveOperands, IsMore, given, row, values_at, valid_values}
-use Rattle.batch_eval.proofs.Items.{lane_at, lane_values, lanes_add, lanes_taken, length_lanes}
+use Rattle.batch_eval.proofs.Items.{lane_at, lanes_add, lanes_taken, length_lanes}
 use Rattle.batch_eval.proofs.WaitingItemLemmas.{each_next}
 use Rattle.batch_eval.proofs.Walks.{lanes_same}
 
@@ -52,11 +53,11 @@ module _ (stage : ℕ) (inner : Inner) (env : Numbers) (start : Option ℕ) (pla
   few_added e t n m sized seen within less valid =
       let size : length (lanes live lane) ≡ length t.items = ap (λ (u : Trace). length u.items) seen in
       let inside : (k : ℕ) → k < n → p + k < live = λ k below. omega (arith, below, less, within, size, length_lanes live lane) in
-      let value : (j : ℕ) → j < live → at (map (λ (x : Item). x.value) (lanes live lane)) j ≡ at xs j = λ j below. ap (λ (ys : List ℤ). at ys j) (lane_values live start places xs sized) ∙ get_or-take live xs j (pos 0) below in
+      let value : (j : ℕ) → j < live → get_or (lanes live lane) j (record { origin = 0; value = pos 0 }) ≡ lane j = λ j below. get_or_from_slice_get (lanes live lane) j (lane j) (record { origin = 0; value = pos 0 }) (lane_at live j lane below) in
       subst (λ (u : Trace). HaveOperands inner env u.items m registers → IsMore expand u.items p (p + n) (gathered n outs_of)) seen
       (λ operands. each_further expand (lanes live lane) p (λ k. lane (p + k)) outs_of n
       (λ k below. lane_at live (p + k) lane (inside k below))
-      (λ k below. ap (flattened stage (lane (p + k))) (ap (λ (z : ℤ). inner_value inner z env) (sym (value (p + k) (inside k below))) ∙ operands (p + k) (omega (arith, below, less)) ∙ valid k below)))
+      (λ k below. ap (flattened stage (lane (p + k))) (ap (λ (x : Item). inner_value inner x env) (sym (value (p + k) (inside k below))) ∙ operands (p + k) (omega (arith, below, less)) ∙ valid k below)))
 
 -- the items at lanes from one on
 pub items_lanes : (items : List Item) (n : ℕ) (g : ℕ → Item) → n ≡ length items → ((k : ℕ) → k < n → slice_get items (0 + k) ≡ Some (g k)) → items ≡ lanes n g
@@ -86,7 +87,7 @@ row_more column later lane (suc n) size below =
     ap (λ (vs : List ℤ). vs ++ at (column ++ later) (suc n * 1024 + lane) ∷ []) (row_more column later lane n size below) ∙ ap (λ (z : ℤ). at column lane ∷ (row later lane n ++ z ∷ [])) last
 
 -- the values of one expression more
-pub values_more : (e : Long) (es : List Long) (x : ℤ) (env : Numbers) (column later : List ℤ) (k n : ℕ) → length column ≡ 1024 → k < 1024 → long_value e x env ≡ Ok (at column k) → each_value es x env ≡ Ok (row later k n) → each_value (e ∷ es) x env ≡ Ok (row (column ++ later) k (suc n))
+pub values_more : (e : Long) (es : List Long) (x : Item) (env : Numbers) (column later : List ℤ) (k n : ℕ) → length column ≡ 1024 → k < 1024 → long_value e x env ≡ Ok (at column k) → each_value es x env ≡ Ok (row later k n) → each_value (e ∷ es) x env ≡ Ok (row (column ++ later) k (suc n))
 values_more e es x env column later k n size below one others = rw (one, others) (ap (λ (vs : List ℤ). let r : Result (List ℤ) FaultKind = Ok vs in r) (sym (row_more column later k n size below)))
 
 length_exprs : (es : List LongExpr) → length (exprs_of es) ≡ length es
@@ -98,15 +99,15 @@ pub of_rows : (inner : Inner) (es xs : List LongExpr) (n : ℕ) → inner ≡ va
 of_rows inner es xs n is same size registers k =
     ap (λ (i : Inner). given i registers k) is ∙ ap (λ (m : ℕ). let r : Result (List ℤ) FaultKind = Ok (row registers k m) in r) (length_exprs es ∙ ap length (sym same) ∙ size)
 
-pub of_operands : (inner : Inner) (es xs : List LongExpr) → inner ≡ values (exprs_of es) → xs ≡ es → (x : ℤ) (env : Numbers) (registers : List ℤ) (k : ℕ) → each_value (exprs_of xs) x env ≡ Ok (row registers k (length xs)) → inner_value inner x env ≡ given inner registers k
+pub of_operands : (inner : Inner) (es xs : List LongExpr) → inner ≡ values (exprs_of es) → xs ≡ es → (x : Item) (env : Numbers) (registers : List ℤ) (k : ℕ) → each_value (exprs_of xs) x env ≡ Ok (row registers k (length xs)) → inner_value inner x env ≡ given inner registers k
 of_operands inner es xs is same x env registers k here =
     ap (λ (i : Inner). inner_value i x env) is ∙ ap (λ (ys : List LongExpr). each_value (exprs_of ys) x env) (sym same) ∙ here ∙ sym (of_rows inner es xs (length xs) is same refl registers k)
 
 -- the values of ranges with these bounds
-pub range_given : (inner : Inner) (a b : Long) → inner ≡ range a b → (x : ℤ) (env : Numbers) (registers : List ℤ) (k : ℕ) → (long_value a x env ≡ Ok (at registers k)) × (long_value b x env ≡ Ok (at registers (1024 + k))) → inner_value inner x env ≡ given inner registers k
+pub range_given : (inner : Inner) (a b : Long) → inner ≡ range a b → (x : Item) (env : Numbers) (registers : List ℤ) (k : ℕ) → (long_value a x env ≡ Ok (at registers k)) × (long_value b x env ≡ Ok (at registers (1024 + k))) → inner_value inner x env ≡ given inner registers k
 range_given inner a b is x env registers k h = rw is (rw (h.0, h.1) refl)
 
-pub range_closed_given : (inner : Inner) (a b : Long) → inner ≡ range_closed a b → (x : ℤ) (env : Numbers) (registers : List ℤ) (k : ℕ) → (long_value a x env ≡ Ok (at registers k)) × (long_value b x env ≡ Ok (at registers (1024 + k))) → inner_value inner x env ≡ given inner registers k
+pub range_closed_given : (inner : Inner) (a b : Long) → inner ≡ range_closed a b → (x : Item) (env : Numbers) (registers : List ℤ) (k : ℕ) → (long_value a x env ≡ Ok (at registers k)) × (long_value b x env ≡ Ok (at registers (1024 + k))) → inner_value inner x env ≡ given inner registers k
 range_closed_given inner a b is x env registers k h = rw is (rw (h.0, h.1) refl)
 
 -- two registers side by side

@@ -23,6 +23,26 @@ kept_unset p i kept b is unset so_far =
     let more : picked p (i + 1) ≡ picked p i ++ [] = picked_more p i false (sym unset ∙ is) in
     rw (more, append-nil) so_far
 
+module _ {A B : Type 0} (g : A → B) (p : ℕ → Bool) (source : ℕ → B) (column : List A) (kept i : ℕ) (v d : A) where
+  -- what stands in front, by what it means, and after it what lane i has written
+  pub front_more_by : (b : Bool) → b ≡ p i → g v ≡ source i → kept < length column → kept ≡ length (picked p i) → ((j : ℕ) → j < kept → g (get_or column j d) ≡ source (get_or (picked p i) j 0)) → (j : ℕ) → j < length (picked p (i + 1)) → g (get_or (set column kept v) j d) ≡ source (get_or (picked p (i + 1)) j 0)
+  front_more_by true is here within so_far front j below =
+      let xs = picked p i in
+      let more : picked p (i + 1) ≡ xs ++ i ∷ [] = picked_more p i true is in
+      let longer : j < length (xs ++ i ∷ []) = subst (λ (ys : List ℕ). j < length ys) more below in
+      rw more (dite (ℕ_discrete j kept)
+      (λ last. rw last (ap g (get_or-set_same column kept v d within) ∙ here ∙ ap source (sym (get_or_at xs i [] 0 kept (sym so_far)))))
+      (λ other.
+      let earlier : j < kept = omega (arith, length-append xs (i ∷ [])) in
+      let inside : j < length xs = omega arith in
+      ap g (get_or-set_other column kept j v d other) ∙ front j earlier ∙ ap source (sym (get_or_append_left xs (i ∷ []) 0 j inside))))
+  front_more_by false is here within so_far front j below =
+      let xs = picked p i in
+      let more : picked p (i + 1) ≡ xs ++ [] = picked_more p i false is in
+      let same : picked p (i + 1) ≡ xs = more ∙ append-nil xs in
+      let inside : j < length xs = subst (λ (ys : List ℕ). j < length ys) same below in
+      rw same (ap g (get_or-set_other column kept j v d (λ e. absurd (omega arith))) ∙ front j (omega arith))
+
 module _ {A : Type 0} (p : ℕ → Bool) (source : ℕ → A) (column : List A) (kept i : ℕ) (v d : A) where
   -- what stands in front, and after it what lane i has written
   pub front_more : (b : Bool) → b ≡ p i → v ≡ source i → kept < length column → kept ≡ length (picked p i) → ((j : ℕ) → j < kept → get_or column j d ≡ source (get_or (picked p i) j 0)) → (j : ℕ) → j < length (picked p (i + 1)) → get_or (set column kept v) j d ≡ source (get_or (picked p (i + 1)) j 0)

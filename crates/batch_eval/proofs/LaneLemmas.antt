@@ -2,7 +2,7 @@
 use Rattle.std.proofs.Common.{◌≡◌, ℕ, ◌+◌, ◌<◌, ◌≤◌, ◌^◌, ℤ, pos, List, length, map, take, drop, Option, Some, None, refl, sym, ap, ◌∙◌, arith}
 use Rattle.std.proofs.lemmas.List.{drop-take, drop_at, get_or-drop, get_or-take, length-drop, length-take-le, take_all}
 use Rattle.std.specs.List.{slice_get}
-use Rattle.trace.specs.declared.item.Item.{Item}
+use Rattle.lambda_values.specs.declared.item.Item.{Item}
 use Rattle.batch_eval.specs.Lanes.{at}
 use Rattle.batch_eval.specs.Batches.{CountsUp, item_at, laid_items, lanes, origin_at}
 use Rattle.batch_eval.proofs.Items.{lane_at, lane_values, lanes_taken, length_lanes}

@@ -10,6 +10,7 @@ pub mod PlaceLemmas
 pub mod PowerLemmas
 pub mod RangeLemmas
 pub mod ReciprocalLemmas
+pub mod RowLemmas
 pub mod SetItemLemmas
 pub mod ShiftLemmas
 pub mod Steps

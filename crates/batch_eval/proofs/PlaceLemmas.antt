@@ -3,7 +3,7 @@ use Rattle.std.proofs.Common.{◌≡◌, ℕ, ◌+◌, ◌<◌, ℤ, pos, ◌+�
 use Rattle.std.proofs.lemmas.Int.{int_wrap_fits}
 use Rattle.std.proofs.lemmas.List.{take_all}
 use Rattle.std.specs.List.{slice_get}
-use Rattle.trace.specs.declared.item.Item.{Item}
+use Rattle.lambda_values.specs.declared.item.Item.{Item}
 use Rattle.trace.specs.Cover.{counted, placed}
 use Rattle.trace.proofs.Ranges.{counted_get, placed_get}
 use Rattle.trace.proofs.Sources.{length-counted, length-placed}

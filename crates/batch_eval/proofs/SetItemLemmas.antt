@@ -5,7 +5,7 @@ use Rattle.trace.specs.declared.stage.Stage.{Stage}
 use Rattle.lambda_values.specs.Earlier.{Numbers}
 use Rattle.lambda_values.specs.Term.{Long, Truth}
 use Rattle.lambda_values.specs.Value.{long_value, truth_value}
-use Rattle.trace.specs.declared.item.Item.{Item}
+use Rattle.lambda_values.specs.declared.item.Item.{Item}
 use Rattle.trace.specs.declared.item.End.{End}
 use Rattle.trace.specs.declared.item.End.TheVariants as end
 use Rattle.trace.specs.Trace.{Trace, trace, each}
@@ -73,13 +73,13 @@ module _ (live : ℕ) (start : Option ℕ) (origins : List ℕ) (values flags : 
 
   module _ (env : Numbers) (stage : ℕ) (r : Reached) where
     -- after a `filter`
-    pub filter_flagged : (test : Truth) → Reaches (λ k. flagged (truth_value test (at values k) env)) (at flags) live r → trace (lanes live lane) e ≡ t → flagged_walk flags (trace (lanes r.live lane) (end_after e stage (origin_at start origins r.live) r.fault)) ≡ each (of_item stage (filter test) env) t.items t.ending
+    pub filter_flagged : (test : Truth) → Reaches (λ k. flagged (truth_value test (lane k) env)) (at flags) live r → trace (lanes live lane) e ≡ t → flagged_walk flags (trace (lanes r.live lane) (end_after e stage (origin_at start origins r.live) r.fault)) ≡ each (of_item stage (filter test) env) t.items t.ending
     filter_flagged test reaches seen =
         let one = each_filtered test env stage live lane (at flags) r e reaches in
         subst (λ (u : Trace). flagged_walk flags (trace (lanes r.live lane) (end_after e stage (origin_at start origins r.live) r.fault)) ≡ each (of_item stage (filter test) env) u.items u.ending) seen (rw (set_lanes flags r.live lane) (sym one))
 
     -- after a `map` of all lanes
-    pub map_all : (expr : Long) (images : List ℤ) → Reaches (λ k. long_value expr (at values k) env) (at images) live r → live ≤ r.live → trace (lanes live lane) e ≡ t → flagged_walk flags (trace (lanes live (item_at start origins images)) e) ≡ each (of_item stage (map expr) env) (set_items flags t.items) t.ending
+    pub map_all : (expr : Long) (images : List ℤ) → Reaches (λ k. long_value expr (lane k) env) (at images) live r → live ≤ r.live → trace (lanes live lane) e ≡ t → flagged_walk flags (trace (lanes live (item_at start origins images)) e) ≡ each (of_item stage (map expr) env) (set_items flags t.items) t.ending
     map_all expr images reaches all seen =
         let f : Item → Trace = of_item stage (map expr) env in
         let new : ℕ → Item = item_at start origins images in
@@ -87,8 +87,8 @@ module _ (live : ℕ) (start : Option ℕ) (origins : List ℕ) (values flags : 
         subst (λ (u : Trace). flagged_walk flags (trace (lanes live new) e) ≡ each f (set_items flags u.items) u.ending) seen (rw (set_lanes flags live new, set_lanes flags live lane) (sym one))
 
     -- after a `filter` of all lanes
-    pub filter_all : (test : Truth) (passes new_flags : List ℤ) → Reaches (λ k. flagged (truth_value test (at values k) env)) (at passes) live r → live ≤ r.live → ((k : ℕ) → k < live → at new_flags k ≡ (if is_set (at passes k) then at flags k else pos 0)) → trace (lanes live lane) e ≡ t → flagged_walk new_flags (trace (lanes live lane) e) ≡ each (of_item stage (filter test) env) (set_items flags t.items) t.ending
+    pub filter_all : (test : Truth) (passes new_flags : List ℤ) → Reaches (λ k. flagged (truth_value test (lane k) env)) (at passes) live r → live ≤ r.live → ((k : ℕ) → k < live → at new_flags k ≡ (if is_set (at passes k) then at flags k else pos 0)) → trace (lanes live lane) e ≡ t → flagged_walk new_flags (trace (lanes live lane) e) ≡ each (of_item stage (filter test) env) (set_items flags t.items) t.ending
     filter_all test passes new_flags reaches all new seen =
         let f : Item → Trace = of_item stage (filter test) env in
-        let one = each_gathered f (λ k. kept_if (is_set (at flags k)) (lane k)) (λ k. kept_if (is_set (at new_flags k)) (lane k)) live (λ k below e. kept_both f (lane k) (is_set (at flags k)) (is_set (at passes k)) e (passed_flag stage (lane k) (truth_value test (at values k) env) (at passes k) (reaches.values k (omega arith))) ∙ ap (λ (b : Bool). trace (kept_if b (lane k)) e) (sym (ap is_set (new k below) ∙ cleared (is_set (at passes k)) (at flags k)))) e in
+        let one = each_gathered f (λ k. kept_if (is_set (at flags k)) (lane k)) (λ k. kept_if (is_set (at new_flags k)) (lane k)) live (λ k below e. kept_both f (lane k) (is_set (at flags k)) (is_set (at passes k)) e (passed_flag stage (lane k) (truth_value test (lane k) env) (at passes k) (reaches.values k (omega arith))) ∙ ap (λ (b : Bool). trace (kept_if b (lane k)) e) (sym (ap is_set (new k below) ∙ cleared (is_set (at passes k)) (at flags k)))) e in
         subst (λ (u : Trace). flagged_walk new_flags (trace (lanes live lane) e) ≡ each f (set_items flags u.items) u.ending) seen (rw (set_lanes flags live lane, set_lanes new_flags live lane) (sym one))

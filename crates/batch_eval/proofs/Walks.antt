@@ -7,7 +7,7 @@ use Rattle.lambda_values.specs.declared.fault.FaultKind.{FaultKind}
 use Rattle.lambda_values.specs.Earlier.{Numbers}
 use Rattle.lambda_values.specs.Term.{Long, Truth}
 use Rattle.lambda_values.specs.Value.{long_value, truth_value}
-use Rattle.trace.specs.declared.item.Item.{Item}
+use Rattle.lambda_values.specs.declared.item.Item.{Item}
 use Rattle.trace.specs.declared.item.Fault.{Fault}
 use Rattle.trace.specs.declared.item.End.{End}
 use Rattle.trace.specs.declared.item.End.TheVariants as end
@@ -66,9 +66,9 @@ module _ (f : Item → Trace) (g : ℕ → Item) (outs : ℕ → List Item) wher
     stopped live (Some kind) values stop = each_stop live n stop.0 (λ k below. gives k (values k below)) (record { kind = kind; stage = stage; origin = Some (g live).origin }) (faults live kind stop.1) e
 
 -- the images of lanes
-pub each_mapped : (expr : Long) (env : Numbers) (stage n : ℕ) (g : ℕ → Item) (column : ℕ → ℤ) (r : Reached) (e : End) → Reaches (λ k. long_value expr (g k).value env) column n r → each (of_item stage (map expr) env) (lanes n g) e ≡ trace (lanes r.live (λ k. record { origin = (g k).origin; value = column k })) (end_after e stage (g r.live).origin r.fault)
+pub each_mapped : (expr : Long) (env : Numbers) (stage n : ℕ) (g : ℕ → Item) (column : ℕ → ℤ) (r : Reached) (e : End) → Reaches (λ k. long_value expr (g k) env) column n r → each (of_item stage (map expr) env) (lanes n g) e ≡ trace (lanes r.live (λ k. record { origin = (g k).origin; value = column k })) (end_after e stage (g r.live).origin r.fault)
 each_mapped expr env stage n g column r e h =
-    each_reached (of_item stage (map expr) env) g (λ k. record { origin = (g k).origin; value = column k } ∷ []) (λ k. long_value expr (g k).value env) column stage n r e h
+    each_reached (of_item stage (map expr) env) g (λ k. record { origin = (g k).origin; value = column k } ∷ []) (λ k. long_value expr (g k) env) column stage n r e h
     (λ k is. ap (image stage (g k)) is)
     (λ k kind is. ap (image stage (g k)) is)
 
@@ -85,11 +85,11 @@ passed_fault stage x (Ok b) kind is = cc
 passed_fault stage x (Err other) kind is = let same : other ≡ kind = cc in ap (λ (k : FaultKind). passed stage x (Err k)) same
 
 -- the lanes that pass
-pub each_filtered : (test : Truth) (env : Numbers) (stage n : ℕ) (g : ℕ → Item) (column : ℕ → ℤ) (r : Reached) (e : End) → Reaches (λ k. flagged (truth_value test (g k).value env)) column n r → each (of_item stage (filter test) env) (lanes n g) e ≡ trace (gathered r.live (λ k. kept_if (is_set (column k)) (g k))) (end_after e stage (g r.live).origin r.fault)
+pub each_filtered : (test : Truth) (env : Numbers) (stage n : ℕ) (g : ℕ → Item) (column : ℕ → ℤ) (r : Reached) (e : End) → Reaches (λ k. flagged (truth_value test (g k) env)) column n r → each (of_item stage (filter test) env) (lanes n g) e ≡ trace (gathered r.live (λ k. kept_if (is_set (column k)) (g k))) (end_after e stage (g r.live).origin r.fault)
 each_filtered test env stage n g column r e h =
-    each_reached (of_item stage (filter test) env) g (λ k. kept_if (is_set (column k)) (g k)) (λ k. flagged (truth_value test (g k).value env)) column stage n r e h
-    (λ k is. passed_flag stage (g k) (truth_value test (g k).value env) (column k) is)
-    (λ k kind is. passed_fault stage (g k) (truth_value test (g k).value env) kind is)
+    each_reached (of_item stage (filter test) env) g (λ k. kept_if (is_set (column k)) (g k)) (λ k. flagged (truth_value test (g k) env)) column stage n r e h
+    (λ k is. passed_flag stage (g k) (truth_value test (g k) env) (column k) is)
+    (λ k kind is. passed_fault stage (g k) (truth_value test (g k) env) kind is)
 
 abbrev picked_if : Bool → ℕ → List ℕ
 picked_if b n = if b then n ∷ [] else []
@@ -110,8 +110,7 @@ gathered_picked p g (suc n) = by_case (p n) (gathered_picked p g n) where
 
 module _ (env : Numbers) (stage live : ℕ) (start : Option ℕ) (origins : List ℕ) (values : List ℤ) (e : End) (t : Trace) (r : Reached) (out : List ℤ) where
   -- the batch after `map`
-  pub batch_mapped : (expr : Long) (old_values new_values : List ℤ) (old_origins : List ℕ) (new_end : End) → Reaches (λ k. long_value expr (at old_values k) env) (at out) live r → old_values ≡ values → new_values ≡ out → old_origins ≡ origins → new_end ≡ end_after e stage (origin_at start old_origins r.live) r.fault → trace (lanes live (item_at start origins values)) e ≡ t → trace (lanes r.live (item_at start origins new_values)) new_end ≡ each (of_item stage (map expr) env) t.items t.ending
-  batch_mapped expr old_values new_values old_origins new_end h vs ws os es seen =
-      let here : Reaches (λ k. long_value expr (at values k) env) (at out) live r = subst (λ (xs : List ℤ). Reaches (λ k. long_value expr (at xs k) env) (at out) live r) vs h in
-      let one = each_mapped expr env stage live (item_at start origins values) (at out) r e here in
+  pub batch_mapped : (expr : Long) (new_values : List ℤ) (old_origins : List ℕ) (new_end : End) → Reaches (λ k. long_value expr (item_at start origins values k) env) (at out) live r → new_values ≡ out → old_origins ≡ origins → new_end ≡ end_after e stage (origin_at start old_origins r.live) r.fault → trace (lanes live (item_at start origins values)) e ≡ t → trace (lanes r.live (item_at start origins new_values)) new_end ≡ each (of_item stage (map expr) env) t.items t.ending
+  batch_mapped expr new_values old_origins new_end h ws os es seen =
+      let one = each_mapped expr env stage live (item_at start origins values) (at out) r e h in
       subst (λ (t : Trace). trace (lanes r.live (item_at start origins new_values)) new_end ≡ each (of_item stage (map expr) env) t.items t.ending) seen (rw (ws, es, os) (sym one))

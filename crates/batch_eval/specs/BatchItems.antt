@@ -1,7 +1,7 @@
 -- Condition: items that batches are made of.
 use Rattle.std.specs.Prelude.{List}
 use Rattle.trace.specs.Cover.{counted, placed}
-use Rattle.trace.specs.declared.item.Item.{Item}
+use Rattle.lambda_values.specs.declared.item.Item.{Item}
 use Rattle.batch_eval.specs.Batches.{laid_items}
 use Rattle.batch_eval.specs.declared.batch_items.BatchItems.{BatchItems}
 use Rattle.batch_eval.specs.declared.batch_items.BatchItems.TheVariants as items

@@ -1,6 +1,7 @@
 -- Condition: the values of operands, as the definitions of expressions combine them.
-use Rattle.std.specs.Prelude.{ℕ, ℤ, Bool, Result, Ok}
+use Rattle.std.specs.Prelude.{◌≡◌, ℕ, ℤ, Bool, Result, Ok}
 use Rattle.lambda_values.specs.declared.fault.FaultKind.{FaultKind}
+use Rattle.lambda_values.specs.declared.item.Item.{Item}
 use Rattle.lambda_values.specs.Earlier.{Numbers}
 use Rattle.lambda_values.specs.Operators.{on}
 use Rattle.lambda_values.specs.Term.{long_of, truth_of}
@@ -8,11 +9,16 @@ use Rattle.lambda_values.specs.Value.{chosen, long_value, truth_value}
 use Rattle.batch_eval.specs.declared.register.Operand.{Operand}
 use Rattle.batch_eval.specs.declared.register.Operand.TheVariants as operand
 use Rattle.batch_eval.specs.declared.register.Inputs.{Inputs}
+use Rattle.batch_eval.specs.Rows.{row_at}
 use Rattle.batch_eval.specs.Lanes.{at, flag_of, flagged, is_set}
 
+-- the item of a lane
+abbrev pub lane_item : Inputs → ℕ → Item
+lane_item inputs k = record { origin = row_at inputs.rows k; value = at inputs.xs.now k }
+
 -- what an expression gives at a lane
-abbrev pub at_each : {A : Type 0} → Inputs → (ℤ → Numbers → A) → ℕ → A
-at_each inputs f k = f (at inputs.xs.now k) inputs.env.now
+abbrev pub at_each : {A : Type 0} → Inputs → (Item → Numbers → A) → ℕ → A
+at_each inputs f k = f (lane_item inputs k) inputs.env.now
 
 -- both operands, from left to right, and then the operator
 abbrev pub between : (ℤ → ℤ → Result ℤ FaultKind) → Result ℤ FaultKind → Result ℤ FaultKind → Result ℤ FaultKind
@@ -27,7 +33,11 @@ abbrev pub by_flag : ℤ → Result ℤ FaultKind → Result ℤ FaultKind → R
 by_flag z a b = chosen (is_set z) a b
 
 -- the value of an operand at an item
-abbrev pub operand_value : Operand → ℤ → Numbers → Result ℤ FaultKind
+abbrev pub operand_value : Operand → Item → Numbers → Result ℤ FaultKind
 operand_value (operand.Long e) x env = long_value (long_of e.now) x env
 operand_value (operand.Bool p) x env = flagged (truth_value (truth_of p.now) x env)
 operand_value (operand.Flag b) x env = Ok (flag_of b)
+
+-- an operand has one value at two rows
+abbrev pub IsSame : Operand → ℕ → ℕ → Type 0
+IsSame o i j = (v : ℤ) (env : Numbers) → operand_value o (record { origin = i; value = v }) env ≡ operand_value o (record { origin = j; value = v }) env

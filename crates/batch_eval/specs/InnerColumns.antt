@@ -1,9 +1,9 @@
 -- Condition: the registers of the operands of inner streams, and the values that come from them.
-use Rattle.std.specs.Prelude.{◌≡◌, ℕ, zero, suc, ◌+◌, ◌*◌, ◌<◌, ◌≤◌, ℤ, Bool, true, false, List, [], ◌∷◌, ◌++◌, length, map, take, Result, Ok, Err}
+use Rattle.std.specs.Prelude.{◌≡◌, ℕ, zero, suc, ◌+◌, ◌*◌, ◌<◌, ◌≤◌, ℤ, Bool, true, false, List, [], ◌∷◌, ◌++◌, length, get_or, pos, take, Result, Ok, Err}
 use Rattle.lambda_values.specs.declared.fault.FaultKind.{FaultKind}
 use Rattle.lambda_values.specs.Earlier.{Numbers}
 use Rattle.lambda_values.specs.Streams.{Inner, distance, inner_value, range, range_closed, through, up_from, values}
-use Rattle.trace.specs.declared.item.Item.{Item}
+use Rattle.lambda_values.specs.declared.item.Item.{Item}
 use Rattle.trace.specs.declared.item.End.TheVariants as end
 use Rattle.trace.specs.Stages.{at_place}
 use Rattle.trace.specs.Trace.{Trace, each, trace}
@@ -28,7 +28,7 @@ given (values es) registers k = Ok (row registers k (length es))
 
 -- at each of the first n items the registers hold the operands of the inner stream
 abbrev pub HaveOperands : Inner → Numbers → List Item → ℕ → List ℤ → Type 0
-HaveOperands inner env items n registers = (k : ℕ) → k < n → inner_value inner (at (map (λ x. x.value) items) k) env ≡ given inner registers k
+HaveOperands inner env items n registers = (k : ℕ) → k < n → inner_value inner (get_or items k (record { origin = 0; value = pos 0 })) env ≡ given inner registers k
 
 -- the values, if they have no fault
 abbrev pub valid_values : Result (List ℤ) FaultKind → List ℤ

@@ -10,3 +10,4 @@ pub mod Pours
 pub mod Powers
 pub mod Reciprocals
 pub mod Rooms
+pub mod Rows

@@ -1,7 +1,7 @@
 -- Condition: expressions that room of some length is enough for; a register takes 1,024 of it.
 use Rattle.std.specs.Prelude.{ℕ, ◌-◌, ◌≤◌, List, [], ◌∷◌}
 use Rattle.lambda_values.specs.declared.expr.LongExpr.{LongExpr, size-LongExpr}
-use Rattle.lambda_values.specs.Term.{Long, number, parameter, reference, unary, binary, choose, long_of, Truth, literal, compare, opposite, connect, choose_truth, truth_of}
+use Rattle.lambda_values.specs.Term.{Long, number, parameter, reference, cell, row, unary, binary, choose, long_of, Truth, literal, compare, opposite, connect, choose_truth, truth_of}
 use Rattle.trace.specs.Stages.{AbstractStage, map, filter, flat_map}
 use Rattle.batch_eval.specs.declared.register.Operand.{Operand}
 use Rattle.batch_eval.specs.declared.register.Operand.TheVariants as operand
@@ -13,6 +13,8 @@ abbrev mutual
   Fits (number z) room = Unit {0}
   Fits (parameter n) room = Unit {0}
   Fits (reference name) room = Unit {0}
+  Fits (cell name) room = Unit {0}
+  Fits row room = Unit {0}
   Fits (unary o a) room = Fits a room
   Fits (binary o a b) room = Fits a room × (1024 ≤ room) × Fits b (room - 1024)
   Fits (choose c a b) room = (4096 ≤ room) × FitsTest c (room - 1024) × Fits a (room - 4096) × Fits b (room - 4096)

@@ -11,7 +11,7 @@ ghost use Rattle.trace.specs.Cover.{counted, placed};
 ghost use Rattle.trace.specs.Stages.{of_item};
 ghost use Rattle.trace.specs.Stages.{map as abstract_map};
 ghost use Rattle.trace.specs.Trace.{each, trace};
-ghost use Rattle.trace.specs.declared.item.Item.{Item};
+ghost use Rattle.lambda_values.specs.declared.item.Item.{Item};
 
 use crate::counted::eval_counted;
 use crate::lane_items::LaneItems;
@@ -19,6 +19,7 @@ use crate::listing::{copy_front, list_items, list_numbers, list_places};
 use crate::pipeline::Pipeline;
 use crate::reached::Reached;
 use crate::register::{Inputs, LANES, eval_long};
+use crate::rows::Rows;
 use lambda_values::LongExpr;
 use std::alloc::Global;
 use std::marker::Model;
@@ -119,6 +120,7 @@ impl Batch {
             env: line.env,
             xs: &self.values,
             live: self.live,
+            rows: Rows::of(self.start, &self.origins),
         };
         let reached = eval_long(image, inputs, &mut self.spare, room);
         self.end = stopped(
@@ -151,6 +153,7 @@ impl Batch {
             env: line.env,
             xs: lanes.values,
             live,
+            rows: Rows::of(lanes.start, lanes.places),
         };
         let reached = eval_long(image, inputs, &mut self.values, room);
         self.end = stopped(
@@ -179,7 +182,14 @@ impl Batch {
             (placed range.now.origin (counted range.now.first range.now.count)) End.Done }
     {
         let live = range.count as usize;
-        let counted = eval_counted(image, line.env, range.first, live, &mut self.values);
+        let counted = eval_counted(
+            image,
+            line.env,
+            range.origin,
+            range.first,
+            live,
+            &mut self.values,
+        );
         let Some(reached) = counted else {
             return false;
         };

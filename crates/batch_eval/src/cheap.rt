@@ -27,7 +27,11 @@ fn after_long(expr: &LongExpr, operators: u32) -> u32 {
         return 0;
     }
     match expr {
-        LongExpr::Number(_) | LongExpr::Parameter(_) | LongExpr::Reference(_) => operators,
+        LongExpr::Number(_)
+        | LongExpr::Parameter(_)
+        | LongExpr::Reference(_)
+        | LongExpr::Cell(_)
+        | LongExpr::Row => operators,
         LongExpr::Unary(operator, operand) => match operator.faults() {
             Faults::Never => after_long(operand, operators - 1),
             Faults::ByZero | Faults::Overflow => 0,

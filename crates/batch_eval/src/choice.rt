@@ -1,6 +1,7 @@
 //! Choices between two operands in a register.
 
 ghost use Rattle.batch_eval.specs.Lanes.{Reaches, at};
+ghost use Rattle.batch_eval.specs.Rows.{HasRows};
 ghost use Rattle.batch_eval.specs.Rooms.{FitsChosen, FitsParted};
 ghost use Rattle.batch_eval.specs.Choices.{at_each, between, by_flag, chosen_value, operand_value};
 ghost use Rattle.lambda_values.specs.Term.{truth_of};
@@ -12,6 +13,7 @@ use crate::choose::{Side, all_flags, gather, merge};
 use crate::operands::blend;
 use crate::reached::{Reached, all};
 use crate::register::{Inputs, LANES, Operand, eval_bool, eval_branch, eval_operand};
+use crate::rows::{Rows, gather_rows};
 use lambda_values::BoolExpr;
 
 /// Puts `condition ? a : b` into a register, up to its first fault. Where `a` and
@@ -21,12 +23,13 @@ pub(crate) fn eval_chosen(
     condition: &BoolExpr,
     a: Operand<'_>,
     b: Operand<'_>,
-    inputs: Inputs<'_>,
+    inputs: Inputs<'_, '_>,
     out: &mut [i64],
     room: &mut [i64],
 ) -> Reached
     requires lanes { inputs.live ≤ 1024 }
     requires xs { inputs.live ≤ length inputs.xs.now }
+    requires rows { HasRows inputs.rows inputs.live }
     requires out { inputs.live ≤ length out.old }
     requires room { FitsChosen (truth_of condition.now) a b (length room.old) }
     ensures { Reaches (at_each inputs.entry (λ x env. chosen_value (truth_value (truth_of condition.now) x env)
@@ -51,13 +54,14 @@ fn eval_parted(
     flags: &[i64],
     a: Operand<'_>,
     b: Operand<'_>,
-    inputs: Inputs<'_>,
+    inputs: Inputs<'_, '_>,
     out: &mut [i64],
     room: &mut [i64],
 ) -> Reached
     requires lanes { inputs.live ≤ 1024 }
     requires flags { inputs.live ≤ length flags.now }
     requires xs { inputs.live ≤ length inputs.xs.now }
+    requires rows { HasRows inputs.rows inputs.live }
     requires out { inputs.live ≤ length out.old }
     requires room { FitsParted a b (length room.old) }
     ensures { Reaches (λ k. by_flag (at flags.now k) (at_each inputs.entry (operand_value a.entry) k)
@@ -66,7 +70,7 @@ fn eval_parted(
     let (items, rest) = room.split_at_mut(LANES);
     let (ones, rest) = rest.split_at_mut(LANES);
     let (others, rest) = rest.split_at_mut(LANES);
-    let Inputs { xs, live, .. } = inputs;
+    let Inputs { xs, live, rows, .. } = inputs;
     if all_flags(flags, true, live) {
         return eval_operand(a, inputs, out, rest);
     }
@@ -74,16 +78,22 @@ fn eval_parted(
         return eval_operand(b, inputs, out, rest);
     }
     let count = gather(flags, true, live, xs, items);
+    gather_rows(a, flags, true, live, rows, out);
+    let moved = Rows::Moved(out);
     let chosen = Inputs {
         xs: items,
         live: count,
+        rows: moved,
         ..inputs
     };
     let first = eval_operand(a, chosen, ones, rest);
     let count = gather(flags, false, live, xs, items);
+    gather_rows(b, flags, false, live, rows, out);
+    let moved = Rows::Moved(out);
     let other = Inputs {
         xs: items,
         live: count,
+        rows: moved,
         ..inputs
     };
     let second = eval_operand(b, other, others, rest);
@@ -105,13 +115,14 @@ fn eval_both(
     flags: &[i64],
     a: Operand<'_>,
     b: Operand<'_>,
-    inputs: Inputs<'_>,
+    inputs: Inputs<'_, '_>,
     out: &mut [i64],
     room: &mut [i64],
 ) -> bool
     requires lanes { inputs.live ≤ 1024 }
     requires flags { inputs.live ≤ length flags.now }
     requires xs { inputs.live ≤ length inputs.xs.now }
+    requires rows { HasRows inputs.rows inputs.live }
     requires out { inputs.live ≤ length out.old }
     requires room { FitsParted a b (length room.old) }
     ensures { IsTrue result → (k : ℕ) → k < inputs.entry.live

@@ -14,7 +14,7 @@ use crate::number_test::NumberTest;
 use crate::reached::{Reached, all};
 
 /// Whether a flag is as it is wanted.
-fn is_wanted(flag: i64, kind: bool) -> bool
+pub(crate) fn is_wanted(flag: i64, kind: bool) -> bool
     ensures { result ≡ wants kind flag }
 {
     if kind { flag != 0 } else { flag == 0 }

@@ -1,5 +1,6 @@
 //! Expressions over numbers that count up: their first operators read no register.
 
+ghost use Rattle.batch_eval.specs.Batches.{counted_item};
 ghost use Rattle.batch_eval.specs.Lanes.{Reaches, at, step_value};
 ghost use Rattle.lambda_values.specs.Operators.{binary_value};
 ghost use Rattle.lambda_values.specs.Term.{long_of};
@@ -17,19 +18,21 @@ use crate::reached::Reached;
 use crate::step::{last_step, no_step};
 use lambda_values::{BinaryOperator, Env, LongExpr};
 
-/// Puts the values of an expression over numbers that count up from this one into a register, up to the first fault. It
-/// is for a chain of operators by numbers. For other expressions the register isn't to be read.
+/// Puts the values of an expression over numbers that count up from this one, at places that count up, into a register,
+/// up to the first fault. It is for a chain of operators by numbers. For other expressions the register isn't to be
+/// read.
 pub(crate) fn eval_counted(
     expr: &LongExpr,
     env: &Env,
+    origin: u64,
     first: i64,
     live: usize,
     out: &mut [i64],
 ) -> Option<Reached>
     requires lanes { live ≤ 1024 }
     requires out { live ≤ length out.old }
-    ensures { IfSome result (λ reached. Reaches (λ k. long_value (long_of expr.now) (wrap (first +ℤ pos k)) env.now)
-        (at out.new) live reached) }
+    ensures { IfSome result (λ reached. Reaches
+        (λ k. long_value (long_of expr.now) (counted_item origin first k) env.now) (at out.new) live reached) }
 {
     let LongExpr::Binary(operator, pair) = expr else {
         return None;
@@ -44,7 +47,7 @@ pub(crate) fn eval_counted(
     if let LongExpr::Parameter(_) = last.of {
         return by_counted(*operator, Counting(first), last.step, y, live, out);
     }
-    let before = eval_counted(last.of, env, first, live, out)?;
+    let before = eval_counted(last.of, env, origin, first, live, out)?;
     let beside = Beside::Number(last.step, y);
     Some(by_infix(op, Held::Out, beside, before.live, out).after(before))
 }

@@ -11,7 +11,7 @@ ghost use Rattle.trace.specs.Stages.{stages_of};
 ghost use Rattle.trace.specs.Trace.{trace};
 ghost use Rattle.trace.specs.declared.feeding.Fed.TheVariants as fed;
 ghost use Rattle.trace.specs.declared.item.End.TheVariants as end;
-ghost use Rattle.trace.specs.declared.item.Item.{Item};
+ghost use Rattle.lambda_values.specs.declared.item.Item.{Item};
 
 use crate::batch_items::BatchItems;
 use crate::flagged::give_passing;

@@ -7,10 +7,10 @@ ghost use Rattle.lambda_values.specs.Earlier.{Numbers};
 ghost use Rattle.lambda_values.specs.Streams.{inner_of, run_values};
 ghost use Rattle.std.specs.Prelude.{◌≡◌, ◌+◌, ◌*◌, ◌-◌, ◌<◌, ◌≤◌, ℕ, ℤ, List, Result, ◌++◌, IfSome, None, Ok, length};
 ghost use Rattle.trace.specs.Stages.{flat_map, of_item};
-ghost use Rattle.trace.specs.declared.item.Item.{Item};
+ghost use Rattle.lambda_values.specs.declared.item.Item.{Item};
 
 use crate::batch::{Batch, origin_of};
-use crate::columns::Columns;
+use crate::inner_columns::Columns;
 use crate::listing::{list_items, list_places, list_row};
 use crate::register::LANES;
 use lambda_values::{InnerExpr, Run, closed_range, range};

@@ -19,6 +19,7 @@ use crate::keep::keep_lanes;
 use crate::lanes::{Number, Own};
 use crate::pipeline::Pipeline;
 use crate::register::{Inputs, Operand, eval_bool, eval_long};
+use crate::rows::Rows;
 use lambda_values::BoolExpr;
 use std::mem;
 use trace::Stage;
@@ -56,6 +57,7 @@ impl Batch {
             env: line.env,
             xs: &self.values,
             live: self.live,
+            rows: Rows::of(self.start, &self.origins),
         };
         let reached = eval_bool(test, inputs, flags, room);
         self.end = stopped(
@@ -88,6 +90,7 @@ impl Batch {
             env: line.env,
             xs: &self.values,
             live: self.live,
+            rows: Rows::of(self.start, &self.origins),
         };
         match line.split_first() {
             Some((Stage::Map(image), later))

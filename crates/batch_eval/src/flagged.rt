@@ -6,6 +6,7 @@ ghost use Rattle.batch_eval.specs.Batches.{item_at, laid_items};
 ghost use Rattle.batch_eval.specs.Choices.{at_each};
 ghost use Rattle.batch_eval.specs.Lanes.{Reaches, at, flag_of, flagged};
 ghost use Rattle.batch_eval.specs.Rooms.{FitsTest};
+ghost use Rattle.batch_eval.specs.Rows.{HasRows};
 ghost use Rattle.lambda_values.specs.Term.{truth_of};
 ghost use Rattle.lambda_values.specs.Value.{truth_value};
 ghost use Rattle.std.specs.Prelude.{◌≡◌, ℕ, ◌+◌, ◌-◌, ◌<◌, ◌≤◌, ◌^◌, List, None, OnErr, Some, length, take};
@@ -13,7 +14,7 @@ ghost use Rattle.trace.specs.Sinks.{IsFed, flow_after};
 ghost use Rattle.trace.specs.Stages.{filter, of_item};
 ghost use Rattle.trace.specs.Trace.{each, trace};
 ghost use Rattle.trace.specs.declared.item.End.TheVariants as end;
-ghost use Rattle.trace.specs.declared.item.Item.{Item};
+ghost use Rattle.lambda_values.specs.declared.item.Item.{Item};
 
 use crate::batch::{Batch, origin_of, stopped};
 use crate::lane_items::LaneItems;
@@ -21,6 +22,7 @@ use crate::number_test::NumberTest;
 use crate::pipeline::Pipeline;
 use crate::reached::Reached;
 use crate::register::{Inputs, LANES, eval_bool, eval_held};
+use crate::rows::Rows;
 use crate::sink::BatchSink;
 use crate::staging::fed_by;
 use crate::step::compared_with;
@@ -100,6 +102,7 @@ pub(crate) fn give_passing<S: BatchSink>(
         env: line.env,
         xs: lanes.values,
         live: lanes.values.len(),
+        rows: Rows::of(lanes.start, lanes.places),
     };
     let (flags, rest) = room.split_at_mut(LANES);
     let (flags, set, reached) = flags_of(test, inputs, flags, rest);
@@ -125,12 +128,13 @@ pub(crate) fn give_passing<S: BatchSink>(
 /// written for a test that compares the values themselves with a number.
 fn flags_of<'a>(
     test: &BoolExpr,
-    inputs: Inputs<'a>,
+    inputs: Inputs<'a, '_>,
     register: &'a mut [i64],
     room: &mut [i64],
 ) -> (&'a [i64], NumberTest, Reached)
     requires lanes { inputs.live ≤ 1024 }
     requires xs { inputs.live ≤ length inputs.xs.now }
+    requires rows { HasRows inputs.rows inputs.live }
     requires register { inputs.live ≤ length register.old }
     requires room { FitsTest (truth_of test.now) (length room.old) }
     ensures flags { inputs.entry.live ≤ length result.0.now }

@@ -10,7 +10,7 @@ use trace::Stage;
 pub struct Pipeline<'a> {
     pub stages: &'a [Stage],
     pub first: u32,
-    pub env: &'a Env,
+    pub env: &'a Env<'a>,
     ghost numbered: { first + length stages.now < 2 ^ 32 },
 }
 

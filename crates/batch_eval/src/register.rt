@@ -2,11 +2,14 @@
 
 ghost use Rattle.batch_eval.specs.Lanes.{HasBranch, HasHeld, Reaches, at, branch_at, flagged, held_at, infix_value};
 ghost use Rattle.batch_eval.specs.Rooms.{Fits, FitsBoth, FitsOperand, FitsTest};
+ghost use Rattle.batch_eval.specs.Rows.{HasRows, row_at};
 ghost use Rattle.batch_eval.specs.Choices.{at_each, between, operand_value};
+ghost use Rattle.tables.specs.Table.{cells_named};
+ghost use Rattle.lambda_values.specs.Earlier.{cell_at};
 ghost use Rattle.lambda_values.specs.Operators.{on};
 ghost use Rattle.lambda_values.specs.Term.{long_of, truth_of};
 ghost use Rattle.lambda_values.specs.Value.{long_value, truth_value};
-ghost use Rattle.std.specs.Prelude.{◌<◌, ◌≤◌, length};
+ghost use Rattle.std.specs.Prelude.{◌≡◌, ◌<◌, ◌≤◌, ℕ, IfSome, Ok, length};
 
 use crate::choice::eval_chosen;
 use crate::constant::number_in;
@@ -17,6 +20,7 @@ use crate::lanes::{Number, Own, Register};
 use crate::loops::run;
 use crate::operands::{Beside, Branch, Held, Step, fill};
 use crate::reached::{Reached, all};
+use crate::rows::{Rows, cells_in_place, gather_cells, number_rows};
 use crate::step::{last_step, no_step};
 use lambda_values::{BoolExpr, Connective, Env, LongExpr, LongPair};
 
@@ -31,24 +35,27 @@ pub(crate) enum Operand<'a> {
     Flag(bool),
 }
 
-/// What an expression is evaluated at: the first `live` of these numbers, with the values of the names that it uses.
+/// What an expression is evaluated at: the first `live` of these numbers, which came from these rows, with the values
+/// of the names that it uses.
 #[derive(Clone, Copy)]
-pub(crate) struct Inputs<'a> {
-    pub(crate) env: &'a Env,
+pub(crate) struct Inputs<'a, 'r> {
+    pub(crate) env: &'a Env<'a>,
     pub(crate) xs: &'a [i64],
     pub(crate) live: usize,
+    pub(crate) rows: Rows<'r>,
 }
 
 /// Puts the values of an expression into a register, up to its first fault. It takes no memory.
 #[cycle(register)]
 pub(crate) fn eval_long(
     expr: &LongExpr,
-    inputs: Inputs<'_>,
+    inputs: Inputs<'_, '_>,
     out: &mut [i64],
     room: &mut [i64],
 ) -> Reached
     requires lanes { inputs.live ≤ 1024 }
     requires xs { inputs.live ≤ length inputs.xs.now }
+    requires rows { HasRows inputs.rows inputs.live }
     requires out { inputs.live ≤ length out.old }
     requires room { Fits (long_of expr.now) (length room.old) }
     ensures { Reaches (at_each inputs.entry (long_value (long_of expr.now))) (at out.new) inputs.entry.live result }
@@ -65,6 +72,8 @@ pub(crate) fn eval_long(
             let number = inputs.env.number(name.as_slice()).unwrap_or(0);
             fill(number, inputs.live, out)
         }
+        LongExpr::Cell(name) => eval_cells(name.as_slice(), inputs, out),
+        LongExpr::Row => number_rows(inputs.rows, inputs.live, out),
         LongExpr::Unary(operator, operand) => {
             eval_before_number(Infix::Alone(*operator), operand, 0, inputs, out, room)
         }
@@ -87,12 +96,13 @@ pub(crate) fn eval_long(
 #[tactic(auto, using(crate::proofs::FlagLemmas::flagged_between, crate::proofs::FlagLemmas::flagged_opposite, crate::proofs::FlagLemmas::flagged_chosen))]
 pub(crate) fn eval_bool(
     test: &BoolExpr,
-    inputs: Inputs<'_>,
+    inputs: Inputs<'_, '_>,
     out: &mut [i64],
     room: &mut [i64],
 ) -> Reached
     requires lanes { inputs.live ≤ 1024 }
     requires xs { inputs.live ≤ length inputs.xs.now }
+    requires rows { HasRows inputs.rows inputs.live }
     requires out { inputs.live ≤ length out.old }
     requires room { FitsTest (truth_of test.now) (length room.old) }
     ensures { Reaches (at_each inputs.entry (λ x env. flagged (truth_value (truth_of test.now) x env)))
@@ -130,12 +140,13 @@ pub(crate) fn eval_bool(
 #[cycle(register)]
 pub(crate) fn eval_operand(
     operand: Operand<'_>,
-    inputs: Inputs<'_>,
+    inputs: Inputs<'_, '_>,
     out: &mut [i64],
     room: &mut [i64],
 ) -> Reached
     requires lanes { inputs.live ≤ 1024 }
     requires xs { inputs.live ≤ length inputs.xs.now }
+    requires rows { HasRows inputs.rows inputs.live }
     requires out { inputs.live ≤ length out.old }
     requires room { FitsOperand operand (length room.old) }
     ensures { Reaches (at_each inputs.entry (operand_value operand.entry)) (at out.new) inputs.entry.live result }
@@ -151,12 +162,13 @@ pub(crate) fn eval_operand(
 #[cycle(register)]
 pub(crate) fn eval_branch<'a>(
     operand: Operand<'_>,
-    inputs: Inputs<'a>,
+    inputs: Inputs<'a, '_>,
     register: &'a mut [i64],
     room: &mut [i64],
 ) -> (Branch<'a>, Reached)
     requires lanes { inputs.live ≤ 1024 }
     requires xs { inputs.live ≤ length inputs.xs.now }
+    requires rows { HasRows inputs.rows inputs.live }
     requires register { inputs.live ≤ length register.old }
     requires room { FitsOperand operand (length room.old) }
     ensures branch { HasBranch result.0 inputs.entry.live }
@@ -188,12 +200,13 @@ pub(crate) fn eval_branch<'a>(
 fn eval_between(
     op: Infix,
     pair: &LongPair,
-    inputs: Inputs<'_>,
+    inputs: Inputs<'_, '_>,
     out: &mut [i64],
     room: &mut [i64],
 ) -> Reached
     requires lanes { inputs.live ≤ 1024 }
     requires xs { inputs.live ≤ length inputs.xs.now }
+    requires rows { HasRows inputs.rows inputs.live }
     requires out { inputs.live ≤ length out.old }
     requires room { FitsBoth (long_of pair.now.left) (long_of pair.now.right) (length room.old) }
     ensures { Reaches (at_each inputs.entry (λ x env. between (infix_value op)
@@ -211,8 +224,8 @@ fn eval_between(
     }
     let (held, first) = eval_held(a, inputs, out, room);
     let last = last_step(b, inputs.env);
-    if let LongExpr::Parameter(_) = last.of {
-        let beside = Beside::Register(inputs.xs, last.step);
+    if let Some(ys) = lying(last.of, inputs) {
+        let beside = Beside::Register(ys, last.step);
         return by_infix(op, held, beside, first.live, out).after(first);
     }
     let valid = Inputs {
@@ -232,12 +245,13 @@ fn eval_before_number(
     op: Infix,
     a: &LongExpr,
     y: i64,
-    inputs: Inputs<'_>,
+    inputs: Inputs<'_, '_>,
     out: &mut [i64],
     room: &mut [i64],
 ) -> Reached
     requires lanes { inputs.live ≤ 1024 }
     requires xs { inputs.live ≤ length inputs.xs.now }
+    requires rows { HasRows inputs.rows inputs.live }
     requires out { inputs.live ≤ length out.old }
     requires room { Fits (long_of a.now) (length room.old) }
     ensures { Reaches (at_each inputs.entry (λ x env. on (long_value (long_of a.now) x env) (λ v. infix_value op v y)))
@@ -253,24 +267,59 @@ fn eval_before_number(
     by_infix(op, held, beside, first.live, out).after(first)
 }
 
-/// An operand in a register, which needs none of its own if it is the item.
+/// The numbers of an operand, where they lie: the items, or the cells of rows that count up.
+fn lying<'a>(expr: &LongExpr, inputs: Inputs<'a, '_>) -> Option<&'a [i64]>
+    requires xs { inputs.live ≤ length inputs.xs.now }
+    requires rows { HasRows inputs.rows inputs.live }
+    ensures lanes { IfSome result (λ xs. inputs.entry.live ≤ length xs.now) }
+    ensures values { IfSome result (λ xs. (k : ℕ) → k < inputs.entry.live
+        → at_each inputs.entry (long_value (long_of expr.now)) k ≡ Ok (at xs.now k)) }
+{
+    match expr {
+        LongExpr::Parameter(_) => Some(inputs.xs),
+        LongExpr::Cell(name) => {
+            let cells = inputs.env.cells(name.as_slice())?;
+            cells_in_place(cells, inputs.rows, inputs.live)
+        }
+        _ => None,
+    }
+}
+
+/// Puts the cells of the column with this name into a register.
+fn eval_cells(name: &[u8], inputs: Inputs<'_, '_>, out: &mut [i64]) -> Reached
+    requires rows { HasRows inputs.rows inputs.live }
+    requires out { inputs.live ≤ length out.old }
+    ensures { Reaches (λ k. Ok (cell_at (row_at inputs.entry.rows k) (cells_named name.now inputs.entry.env.now.table)))
+        (at out.new) inputs.entry.live result }
+{
+    let Some(cells) = inputs.env.cells(name) else {
+        return fill(0, inputs.live, out);
+    };
+    match cells_in_place(cells, inputs.rows, inputs.live) {
+        Some(xs) => run::<First, _, _>(Register(xs), Number(0), inputs.live, out),
+        None => gather_cells(cells, inputs.rows, inputs.live, out),
+    }
+}
+
+/// An operand in a register, which needs none of its own if it lies in one.
 #[cycle(register)]
 pub(crate) fn eval_held<'a>(
     expr: &LongExpr,
-    inputs: Inputs<'a>,
+    inputs: Inputs<'a, '_>,
     out: &mut [i64],
     room: &mut [i64],
 ) -> (Held<'a>, Reached)
     requires lanes { inputs.live ≤ 1024 }
     requires xs { inputs.live ≤ length inputs.xs.now }
+    requires rows { HasRows inputs.rows inputs.live }
     requires out { inputs.live ≤ length out.old }
     requires room { Fits (long_of expr.now) (length room.old) }
     ensures held { HasHeld result.0 inputs.entry.live }
     ensures reached { Reaches (at_each inputs.entry (long_value (long_of expr.now)))
         (held_at result.0 out.new) inputs.entry.live result.1 }
 {
-    match expr {
-        LongExpr::Parameter(_) => (Held::Register(inputs.xs), all(inputs.live)),
-        _ => (Held::Out, eval_long(expr, inputs, out, room)),
+    match lying(expr, inputs) {
+        Some(xs) => (Held::Register(xs), all(inputs.live)),
+        None => (Held::Out, eval_long(expr, inputs, out, room)),
     }
 }

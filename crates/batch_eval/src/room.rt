@@ -15,7 +15,11 @@ pub(crate) fn fits(expr: &LongExpr, room: usize) -> bool
     ensures { IsTrue result → Fits (long_of expr.now) room }
 {
     match expr {
-        LongExpr::Number(_) | LongExpr::Parameter(_) | LongExpr::Reference(_) => true,
+        LongExpr::Number(_)
+        | LongExpr::Parameter(_)
+        | LongExpr::Reference(_)
+        | LongExpr::Cell(_)
+        | LongExpr::Row => true,
         LongExpr::Unary(_, operand) => fits(operand, room),
         LongExpr::Binary(_, pair) => both_fit(&pair.left, &pair.right, room),
         LongExpr::Choose(choice) => {

@@ -11,11 +11,11 @@ ghost use Rattle.trace.specs.Sinks.{IsFed, flow_after};
 ghost use Rattle.trace.specs.Stages.{at_place, flat_map, of_item, stages_of};
 ghost use Rattle.trace.specs.Trace.{each, trace};
 ghost use Rattle.trace.specs.declared.feeding.Fed.TheVariants as fed;
-ghost use Rattle.trace.specs.declared.item.Item.{Item};
+ghost use Rattle.lambda_values.specs.declared.item.Item.{Item};
 
 use crate::batch::Batch;
-use crate::columns::{Columns, column_room, eval_columns};
 use crate::flagged::{give_passing, give_set};
+use crate::inner_columns::{Columns, column_room, eval_columns};
 use crate::lane_items::LaneItems;
 use crate::pipeline::Pipeline;
 use crate::register::LANES;
@@ -98,7 +98,7 @@ fn feed_inner<S: BatchSink>(
     pending.clear();
     let part = column_room(inner, later.stages, room.len());
     let (registers, room) = room.split_at_mut(part);
-    let lanes = eval_columns(inner, later.env, batch.values(), registers, room);
+    let lanes = eval_columns(inner, later.env, batch.lanes(), registers, room);
     let columns = Columns {
         inner,
         registers,
@@ -109,7 +109,7 @@ fn feed_inner<S: BatchSink>(
     let mut position = pending.add_few(columns, batch, 0);
     while position < count {
         let item = batch.item_at(position);
-        match inner.eval_into(item.value, later.env, &mut listed) {
+        match inner.eval_into(item, later.env, &mut listed) {
             Ok(run) => {
                 let values = InnerItems {
                     origin: item.origin,

@@ -6,6 +6,7 @@ ghost use Rattle.batch_eval.specs.NumberTests.{masked};
 ghost use Rattle.batch_eval.specs.Rooms.{Fits, FitsTest, size};
 ghost use Rattle.lambda_values.specs.Operators.{binary_value, on};
 ghost use Rattle.lambda_values.specs.Term.{long_of, truth_of};
+ghost use Rattle.lambda_values.specs.declared.item.Item.{Item};
 ghost use Rattle.lambda_values.specs.Value.{long_value, truth_value};
 ghost use Rattle.std.specs.Prelude.{◌≡◌, ◌≤◌, ℕ, ℤ, IfSome, Ok};
 
@@ -24,7 +25,7 @@ pub(crate) struct LastStep<'a> {
 
 /// The last operator of an expression as a step, if it is one by a number that has no fault.
 pub(crate) fn last_step<'a>(expr: &'a LongExpr, env: &Env) -> LastStep<'a>
-    ensures value { (x : ℤ) → long_value (long_of expr.now) x env.now
+    ensures value { (x : Item) → long_value (long_of expr.now) x env.now
         ≡ on (long_value (long_of result.of.now) x env.now) (λ v. Ok (step_value result.step v)) }
     ensures room { (room : ℕ) → Fits (long_of expr.now) room → Fits (long_of result.of.now) room }
     ensures size { size result.of.now ≤ size expr.now }
@@ -74,7 +75,7 @@ fn step_of(operator: BinaryOperator, number: i64) -> Option<Step>
 /// A test as a comparison of an expression with a number. If its last operator is an `&` with a number, this one is the
 /// mask, and the expression is without it.
 pub(crate) fn compared_with<'a>(test: &'a BoolExpr, env: &Env) -> Option<(&'a LongExpr, NumberTest)>
-    ensures value { IfSome result (λ parts. (x : ℤ) → truth_value (truth_of test.now) x env.now
+    ensures value { IfSome result (λ parts. (x : Item) → truth_value (truth_of test.now) x env.now
         ≡ on (long_value (long_of parts.0.now) x env.now) (λ v. Ok (holds parts.1 v))) }
     ensures room { IfSome result (λ parts. (room : ℕ) → FitsTest (truth_of test.now) room
         → Fits (long_of parts.0.now) room) }
@@ -89,7 +90,7 @@ pub(crate) fn compared_with<'a>(test: &'a BoolExpr, env: &Env) -> Option<(&'a Lo
 
 /// An expression without a last `&` with a number, and this number; or the whole expression.
 fn unmasked<'a>(expr: &'a LongExpr, env: &Env) -> (&'a LongExpr, Option<i64>)
-    ensures value { (x : ℤ) → long_value (long_of expr.now) x env.now
+    ensures value { (x : Item) → long_value (long_of expr.now) x env.now
         ≡ on (long_value (long_of result.0.now) x env.now) (λ v. Ok (masked result.1 v)) }
     ensures room { (room : ℕ) → Fits (long_of expr.now) room → Fits (long_of result.0.now) room }
 {

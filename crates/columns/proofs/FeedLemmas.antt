@@ -17,7 +17,7 @@ use Rattle.columns.specs.Number.{number_of}
 use Rattle.columns.specs.PlainRows.{AreRead, AreRowsOf, IsBetween}
 use Rattle.columns.specs.Refusals.{cell_fault, row_fault, rows_fault}
 use Rattle.columns.specs.declared.fault.ColumnFault.{ColumnFault}
-use Rattle.columns.specs.Table.{NamedColumn}
+use Rattle.tables.specs.Table.{NamedColumn}
 use Rattle.columns.proofs.CsvLemmas.{AreRowsOf-none, between, plain_number, start_from}
 use Rattle.columns.proofs.FirstRecord.{goes_on, stops}
 

@@ -7,7 +7,8 @@ use Rattle.columns.specs.declared.fault.ColumnFault.TheVariants.{NoHeader}
 use Rattle.columns.specs.Cells.{cells_of, records_of}
 use Rattle.columns.specs.Records.{GaveNext, IsReading}
 use Rattle.columns.specs.Refusals.{header_fault, rows_fault}
-use Rattle.columns.specs.Table.{NamedColumn, columns_under, table_of}
+use Rattle.columns.specs.Table.{columns_under, table_of}
+use Rattle.tables.specs.Table.{NamedColumn}
 use Rattle.columns.specs.TableOfColumns.{with_rows}
 use Rattle.columns.proofs.TableLemmas.{with_rows-columns_under}
 

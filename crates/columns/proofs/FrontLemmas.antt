@@ -17,7 +17,8 @@ use Rattle.columns.specs.Fronts.{ArePutUnder, Goes, IsAnswerOf, IsFront, IsPutBy
 use Rattle.columns.specs.Pieces.{cells_at}
 use Rattle.columns.specs.PlainRows.{AreRead, AreRowsOf, EndsFirst}
 use Rattle.columns.specs.Refusals.{header_fault, rows_fault}
-use Rattle.columns.specs.Table.{NamedColumn, columns_under, first_number, table_of}
+use Rattle.columns.specs.Table.{columns_under, first_number, table_of}
+use Rattle.tables.specs.Table.{NamedColumn}
 use Rattle.columns.specs.TableOfColumns.{with_rows}
 use Rattle.columns.proofs.CsvLemmas.{AreRowsOf-none, AreRowsOf-row, AreRowsOf-same}
 use Rattle.columns.proofs.FeedLemmas.{AreRead-on, IsLines}

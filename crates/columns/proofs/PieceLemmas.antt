@@ -5,13 +5,15 @@ use Rattle.std.proofs.lemmas.List.{append-nil, ext_get_or, get_or-map, length-ma
 use Rattle.std.proofs.lemmas.List.Folds.{list_all_at}
 use Rattle.std.proofs.lemmas.List.Sums.{fold_more}
 use Rattle.std.specs.List.{list_all}
-use Rattle.columns.specs.declared.table.Column.{Column}
+use Rattle.tables.specs.declared.table.Column.{Column}
 use Rattle.columns.specs.declared.pieces.TextPiece.{TextPiece}
 use Rattle.columns.specs.Pieces.{ArePut, IsPiece, IsPieceThere, append_columns, append_pieces, blanks, cells_at, with_pieces}
 use Rattle.columns.specs.PlainRows.{AreRead}
 use Rattle.columns.proofs.PlainRowLemmas.{AreRead-join}
-use Rattle.columns.specs.Table.{NamedColumn, first_number}
-use Rattle.columns.specs.TableOfColumns.{named, with_row, with_rows}
+use Rattle.columns.specs.Table.{first_number}
+use Rattle.tables.specs.Table.{NamedColumn}
+use Rattle.columns.specs.TableOfColumns.{with_row, with_rows}
+use Rattle.tables.specs.TableOfColumns.{named}
 
 blanks_more : (n : ℕ) → blanks (n + 1) ≡ blanks n ++ record { name = []; cells = [] } ∷ []
 blanks_more zero = refl

@@ -6,12 +6,13 @@ use Rattle.std.specs.Option.{option_or}
 use Rattle.std.specs.Prelude.{is_some}
 use Rattle.csv.proofs.RoundTrip.{record-same}
 use Rattle.columns.specs.declared.fault.ColumnFault.{ColumnFault}
-use Rattle.columns.specs.declared.table.Column.{Column}
+use Rattle.tables.specs.declared.table.Column.{Column}
 use Rattle.columns.specs.Number.{number_of}
 use Rattle.columns.specs.PlainRows.{AreCellsThere, AreRead, IsCellThere, IsRowThere}
 use Rattle.columns.specs.Refusals.{cell_fault, row_fault, rows_fault}
-use Rattle.columns.specs.Table.{NamedColumn}
-use Rattle.columns.specs.TableOfColumns.{named, with_row, with_rows}
+use Rattle.tables.specs.Table.{NamedColumn}
+use Rattle.columns.specs.TableOfColumns.{with_row, with_rows}
+use Rattle.tables.specs.TableOfColumns.{named}
 use Rattle.columns.proofs.CsvLemmas.{AreRowsOf-row, AreRowsOf-skip}
 use Rattle.columns.proofs.RowLemmas.{put_number, row_fault_is}
 

@@ -7,7 +7,7 @@ use Rattle.std.specs.Prelude.{slice_get, is_some, option_and_then}
 use Rattle.std.specs.List.{list_any}
 use Rattle.std.specs.Str.{bytes_eq}
 use Rattle.csv.specs.Records.{field_at}
-use Rattle.columns.specs.declared.table.Column.{Column}
+use Rattle.tables.specs.declared.table.Column.{Column}
 use Rattle.std.specs.Borrow.{Bor}
 use Rattle.csv.specs.declared.reader.Reader.{Reader}
 use Rattle.columns.specs.declared.fault.ColumnFault.{ColumnFault}
@@ -15,8 +15,10 @@ use Rattle.columns.specs.declared.fault.ColumnFault.TheVariants.{BadNumber}
 use Rattle.columns.specs.Records.{GaveNext, IsReading}
 use Rattle.columns.specs.Number.{number_of}
 use Rattle.columns.specs.Refusals.{cell_fault, has_twice, row_fault, rows_fault}
-use Rattle.columns.specs.Table.{NamedColumn, columns_under}
-use Rattle.columns.specs.TableOfColumns.{named, with_row, with_rows}
+use Rattle.columns.specs.Table.{columns_under}
+use Rattle.tables.specs.Table.{NamedColumn}
+use Rattle.columns.specs.TableOfColumns.{with_row, with_rows}
+use Rattle.tables.specs.TableOfColumns.{named}
 
 -- a field of a record is an element of the list of its fields
 pub field_at_is : (fields : List (List ℕ)) (i : ℕ) → field_at fields i ≡ slice_get fields i

@@ -1,20 +1,10 @@
 -- Columns in memory, and the table that they show.
-use Rattle.std.proofs.Common.{◌≡◌, ◌∙◌, ◌++◌, ℕ, suc, List, [], ◌∷◌, ap, drop, length, map, option_map, refl, sym, inl, inr, append_assoc}
+use Rattle.std.proofs.Common.{◌≡◌, ◌∙◌, ◌++◌, ℕ, suc, List, [], ◌∷◌, ap, drop, length, map, refl, sym, append_assoc}
 use Rattle.std.proofs.lemmas.List.{append-nil, length-map, map_push}
-use Rattle.std.proofs.lemmas.Bool.{cases_Bool}
-use Rattle.std.specs.List.{find}
-use Rattle.std.specs.Str.{bytes_eq}
-use Rattle.columns.specs.declared.table.Column.{Column}
-use Rattle.columns.specs.Table.{cells_named, columns_under, first_number}
-use Rattle.columns.specs.TableOfColumns.{named, with_row, with_rows}
-
-pub cells_named-map : (name : List ℕ) (columns : List Column)
-    → cells_named name (map named columns) ≡ option_map (λ c. c.cells.items) (find (λ c. bytes_eq c.name.items name) columns)
-cells_named-map name [] = refl
-cells_named-map name (c ∷ columns) = elim (cases_Bool (bytes_eq c.name.items name)) [
-  | inl same ↦ rw same refl
-  | inr other ↦ rw other (cells_named-map name columns)
-]
+use Rattle.tables.specs.declared.table.Column.{Column}
+use Rattle.columns.specs.Table.{columns_under, first_number}
+use Rattle.columns.specs.TableOfColumns.{with_row, with_rows}
+use Rattle.tables.specs.TableOfColumns.{named}
 
 pub length-columns_under : (names : List (List ℕ)) (rows : List (List (List ℕ))) → length (columns_under names rows) ≡ length names
 length-columns_under [] rows = refl

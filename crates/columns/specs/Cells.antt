@@ -3,7 +3,8 @@ use Rattle.std.specs.Prelude.{◌≡◌, ◌≢◌, ℕ, List, Result, Ok, Err, 
 use Rattle.csv.specs.Reading.{default_config, records, strip_bom}
 use Rattle.columns.specs.declared.fault.ColumnFault.{ColumnFault}
 use Rattle.columns.specs.declared.fault.ColumnFault.TheVariants.{Read, NoMemory}
-use Rattle.columns.specs.Table.{NamedColumn, table_of}
+use Rattle.columns.specs.Table.{table_of}
+use Rattle.tables.specs.Table.{NamedColumn}
 
 -- the records of the bytes, as `csv` defines them with its defaults, one byte order mark at the start skipped
 abbrev pub records_of : List ℕ → List (List (List ℕ))

@@ -6,7 +6,8 @@ use Rattle.columns.specs.declared.fault.ColumnFault.TheVariants.{Read, NoMemory}
 use Rattle.columns.specs.Pieces.{cells_at}
 use Rattle.columns.specs.PlainRows.{AreRowsOf}
 use Rattle.columns.specs.Refusals.{header_fault, rows_fault}
-use Rattle.columns.specs.Table.{NamedColumn, columns_under, table_of}
+use Rattle.columns.specs.Table.{columns_under, table_of}
+use Rattle.tables.specs.Table.{NamedColumn}
 use Rattle.columns.specs.TableOfColumns.{with_rows}
 
 -- the front of a text has a header and rows without a fault, which stand in the columns; the records after it are read

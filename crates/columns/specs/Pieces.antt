@@ -1,10 +1,10 @@
 -- Condition: rows that were read in pieces of their text.
 use Rattle.std.specs.Prelude.{◌≡◌, ◌<◌, ◌≤◌, ◌++◌, ◌∷◌, [], ℕ, ℤ, zero, suc, true, List, length, map, drop, fold, get_or}
 use Rattle.columns.specs.declared.pieces.TextPiece.{TextPiece}
-use Rattle.columns.specs.declared.table.Column.{Column}
+use Rattle.tables.specs.declared.table.Column.{Column}
 use Rattle.columns.specs.PlainRows.{AreRead}
-use Rattle.columns.specs.Table.{NamedColumn}
-use Rattle.columns.specs.TableOfColumns.{named}
+use Rattle.tables.specs.Table.{NamedColumn}
+use Rattle.tables.specs.TableOfColumns.{named}
 
 -- columns without names and cells
 abbrev pub blanks : ℕ → List NamedColumn

@@ -7,7 +7,7 @@ use Rattle.csv.specs.declared.parser.State.{State}
 use Rattle.csv.specs.declared.parser.State.TheVariants as st
 use Rattle.columns.specs.Number.{number_of}
 use Rattle.columns.specs.Refusals.{cell_fault, row_fault, rows_fault}
-use Rattle.columns.specs.Table.{NamedColumn}
+use Rattle.tables.specs.Table.{NamedColumn}
 use Rattle.columns.specs.TableOfColumns.{with_row, with_rows}
 
 -- the states at the start of a record

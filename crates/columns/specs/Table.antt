@@ -1,17 +1,11 @@
--- Meaning: the columns of a table, each a name and the numbers under it.
-use Rattle.std.specs.Prelude.{[], ◌∷◌, ℕ, ℤ, pos, List, Option, Some, None, Result, Ok, Err, length, map, drop, option_map, unwrap_or}
-use Rattle.std.specs.List.{find}
+-- Meaning: the table that the records of a column file give.
+use Rattle.std.specs.Prelude.{[], ◌∷◌, ℕ, ℤ, pos, List, Option, Some, None, Result, Ok, Err, length, map, drop, unwrap_or}
 use Rattle.std.specs.Option.{option_or}
-use Rattle.std.specs.Str.{bytes_eq}
 use Rattle.columns.specs.declared.fault.ColumnFault.{ColumnFault}
 use Rattle.columns.specs.declared.fault.ColumnFault.TheVariants.{NoHeader}
 use Rattle.columns.specs.Number.{number_of}
 use Rattle.columns.specs.Refusals.{header_fault, rows_fault}
-
--- a column: its name, and its numbers from the top
-pub record NamedColumn : Type 0 where
-  pub name : List ℕ
-  pub cells : List ℤ
+use Rattle.tables.specs.Table.{NamedColumn}
 
 -- helper: the number that the first cell of a row spells; it is asked for only if there is one
 abbrev pub first_number : List (List ℕ) → ℤ
@@ -35,7 +29,3 @@ abbrev pub table_of : List (List (List ℕ)) → Result (List NamedColumn) Colum
 table_of [] = Err NoHeader
 table_of (header ∷ rows) =
     unless (option_or (header_fault header) (rows_fault (length header) 1 rows)) (columns_under header rows)
-
--- the numbers under a name
-abbrev pub cells_named : List ℕ → List NamedColumn → Option (List ℤ)
-cells_named name columns = option_map (λ c. c.cells) (find (λ c. bytes_eq c.name name) columns)

@@ -1,17 +1,7 @@
--- Condition: what the columns in memory show.
-use Rattle.std.specs.Prelude.{◌∷◌, ◌++◌, [], ℕ, List, Option, Some, None, drop}
-use Rattle.std.specs.declared.vec.Vec.{Vec}
-use Rattle.columns.specs.declared.table.Column.{Column}
-use Rattle.columns.specs.Table.{NamedColumn, first_number}
-
--- a column as its name and its numbers
-abbrev pub named : Column → NamedColumn
-named c = record { name = c.name.items; cells = c.cells.items }
-
--- the columns, or none of them
-abbrev pub columns_in : {A : Type 0} → Option (Vec Column A) → List Column
-columns_in None = []
-columns_in (Some columns) = columns.items
+-- Condition: columns with rows added at their ends.
+use Rattle.std.specs.Prelude.{◌∷◌, ◌++◌, [], ℕ, List, drop}
+use Rattle.columns.specs.Table.{first_number}
+use Rattle.tables.specs.Table.{NamedColumn}
 
 -- each column with the number that stands in its place in a row
 abbrev pub with_row : List NamedColumn → List (List ℕ) → List NamedColumn

@@ -8,7 +8,7 @@ ghost use Rattle.columns.specs.Cells.{IsAnswerTo};
 ghost use Rattle.csv.specs.Reading.{strip_bom};
 ghost use Rattle.columns.specs.Fronts.{ArePutUnder, IsPutBy, IsReadWhole};
 ghost use Rattle.columns.specs.Pieces.{cells_at};
-ghost use Rattle.columns.specs.TableOfColumns.{named};
+ghost use Rattle.tables.specs.TableOfColumns.{named};
 
 use crate::fault::ColumnFault;
 use crate::reading::columns_in;
@@ -16,10 +16,10 @@ use crate::records::reader_of;
 use crate::round_bytes::read_on;
 use crate::rounds::MARK;
 use crate::rows::read_rows;
-use crate::table::{Column, Columns};
 use counted_io::CountedRead;
 use csv::ByteRecord;
 use std::alloc::Global;
+use tables::{Column, Columns};
 
 /// The columns of these bytes and of all that the reader has left, read by their records.
 pub(crate) fn columns_by_records<R: CountedRead>(

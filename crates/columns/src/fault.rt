@@ -5,12 +5,12 @@ ghost use Rattle.columns.specs.Refusals.{number_of_fault};
 ghost use Rattle.columns.specs.declared.fault.ColumnFault.TheVariants.{NoMemory};
 
 use std::alloc::AllocError;
-use std::error::Error;
 use std::fmt;
 use std::fmt::{Display, Formatter, Write};
+use thiserror::Error;
 
 /// Why a column file gives no columns. Rows and columns count from 1; the header isn't counted.
-#[derive(Clone, Copy, Debug, PartialEq, Eq)]
+#[derive(Clone, Copy, Debug, PartialEq, Eq, Error)]
 pub enum ColumnFault {
     /// The file has no record at all.
     NoHeader,
@@ -62,8 +62,6 @@ impl Display for ColumnFault {
         }
     }
 }
-
-impl Error for ColumnFault {}
 
 impl From<AllocError> for ColumnFault {
     ghost from_gives = { λ _ fault. fault ≡ NoMemory };

@@ -25,9 +25,8 @@ mod records;
 mod round_bytes;
 mod rounds;
 mod rows;
-mod table;
 
 pub use cell::read_cell;
 pub use fault::ColumnFault;
 pub use reading::{read_columns, read_columns_by};
-pub use table::Columns;
+pub use tables::Columns;

@@ -12,15 +12,15 @@ ghost use Rattle.std.specs.Bool.{MatchBool};
 ghost use Rattle.std.specs.List.{list_all};
 ghost use Rattle.columns.specs.Pieces.{ArePut, IsPieceThere, IsPut, append_pieces, blanks};
 ghost use Rattle.columns.specs.PlainRows.{AreRead};
-ghost use Rattle.columns.specs.Table.{NamedColumn};
-ghost use Rattle.columns.specs.TableOfColumns.{named};
+ghost use Rattle.tables.specs.Table.{NamedColumn};
+ghost use Rattle.tables.specs.TableOfColumns.{named};
 
 use crate::plain::read_plain_rows;
 use crate::reading::rows_to_expect;
-use crate::table::Column;
 use std::alloc::{AllocError, Global};
 use std::thread;
 use std::thread::Threads;
+use tables::Column;
 
 /// What parses a text in pieces: workers, each on a thread, and how many bytes a piece has at least.
 #[derive(Drop)]

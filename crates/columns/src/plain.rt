@@ -9,11 +9,11 @@ ghost use Rattle.std.specs.Char.{is_ascii_digit};
 ghost use Rattle.columns.specs.Cell.{digits_value};
 ghost use Rattle.columns.specs.Number.{number_of};
 ghost use Rattle.columns.specs.PlainRows.{AreRead, IsAfterField, IsCellThere, IsRowThere, ends_field};
-ghost use Rattle.columns.specs.TableOfColumns.{named};
+ghost use Rattle.tables.specs.TableOfColumns.{named};
 
 use crate::cell::read_cell;
 use crate::digits::{BLOCK, front_digits};
-use crate::table::Column;
+use tables::Column;
 
 /// A number that was read, and where to read on: at the next field, or after the last one at the next record.
 #[derive(Clone, Copy)]

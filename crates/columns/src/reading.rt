@@ -7,7 +7,7 @@ ghost use Rattle.counted_io.specs.FailureCounts.{HasRisen};
 ghost use Rattle.columns.specs.Cells.{IsAnswerTo, cells_of, records_of};
 ghost use Rattle.columns.specs.Fronts.{IsFront, IsReadWhole};
 ghost use Rattle.columns.specs.Records.{IsReading};
-ghost use Rattle.columns.specs.TableOfColumns.{named};
+ghost use Rattle.tables.specs.TableOfColumns.{named};
 ghost use Rattle.csv.specs.Reading.{strip_bom};
 
 use crate::fault::ColumnFault;
@@ -18,11 +18,11 @@ use crate::records::{next_record, reader_of};
 use crate::round_bytes::read_on;
 use crate::rounds::columns_in_rounds;
 use crate::rows::{columns_of_header, read_rows};
-use crate::table::{Column, Columns};
 use counted_io::{CountedRead, ReadAllFault, read_all_of};
 use csv::{ByteRecord, Reader};
 use std::alloc::Global;
 use std::thread::Threads;
+use tables::{Column, Columns};
 
 /// The columns of a file of comma-separated integers.
 ///

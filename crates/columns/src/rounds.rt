@@ -18,7 +18,7 @@ ghost use Rattle.columns.specs.Cells.{IsAnswerTo};
 ghost use Rattle.csv.specs.Reading.{strip_bom};
 ghost use Rattle.columns.specs.Fronts.{Goes, IsFront, IsPutBy, IsReadWhole};
 ghost use Rattle.columns.specs.PlainRows.{AreRead};
-ghost use Rattle.columns.specs.TableOfColumns.{named};
+ghost use Rattle.tables.specs.TableOfColumns.{named};
 
 use crate::by_records::{columns_by_records, put_by_records};
 use crate::fault::ColumnFault;
@@ -26,11 +26,11 @@ use crate::header::without_mark;
 use crate::pieces::{Team, TextPiece, empty_pieces, put_plain_text};
 use crate::reading::{plain_header, rows_to_expect};
 use crate::round_bytes::{begin_with, last_line_end, read_on};
-use crate::table::{Column, Columns};
 use counted_io::CountedRead;
 use std::alloc::{AllocError, Global};
 use std::thread::Threads;
 use std::{mem, thread};
+use tables::{Column, Columns};
 
 /// How a round ended.
 #[derive(Clone, Copy)]

@@ -8,14 +8,15 @@ ghost use Rattle.columns.specs.Number.{number_of};
 ghost use Rattle.columns.specs.Records.{IsReading, IsSetUp};
 ghost use Rattle.columns.specs.Refusals.{has_twice, header_fault, row_fault, rows_fault};
 ghost use Rattle.columns.specs.Table.{columns_under};
-ghost use Rattle.columns.specs.TableOfColumns.{named, with_row, with_rows};
+ghost use Rattle.columns.specs.TableOfColumns.{with_row, with_rows};
+ghost use Rattle.tables.specs.TableOfColumns.{named};
 
 use crate::cell::read_cell;
 use crate::fault::ColumnFault;
 use crate::records::next_record;
-use crate::table::Column;
 use csv::{ByteRecord, Reader};
 use std::alloc::{AllocError, Global};
+use tables::Column;
 
 /// How many columns a file may have.
 const MAX_COLUMNS: usize = 256;

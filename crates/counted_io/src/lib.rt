@@ -1,7 +1,7 @@
 //! Readers and writers that count what failed.
 //!
-//! Stands on std and on `thiserror`. `columns` and `report` stand on it and give out its names; the run reads a
-//! job file and writes a report by it.
+//! Stands on std and on `thiserror`. `columns` reads column files by it, `report` writes reports, and the run reads its
+//! job file.
 //!
 //! A contract can't say when a file fails, but it can compare two counts: `read_all_of`, clause `failed`, and
 //! `write_all_of`, clause `failed`, report a fault of the reader or the writer only if the count rose. Of a

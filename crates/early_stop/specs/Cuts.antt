@@ -74,7 +74,8 @@ pub record IsSeen (decides : ℕ → ℕ → Type 0) (words actor i : ℕ) (v : 
   pub known : n ≤ least i v.known
   pub one_step : OneStep decides words i n n actor v w
 
--- a split adds one view and changes nothing else, whatever the words and the other views are
+-- a split adds one view and changes nothing else, whatever the words and the other views are; that the new view is of the
+-- second seat's own actor isn't said
 abbrev pub IsSplit : (ℕ → ℕ → Type 0) → ℕ → KnownPlaces → KnownPlaces → KnownPlaces → Type 0
 IsSplit decides words v rest part = (s : Board) (actor : ℕ) → Ruled decides words s → get_elem? s.views actor ≡ some v
     → Ruled decides words (record { words = s.words; homes = s.homes; views = slice_set s.views actor rest ++ part ∷ [] })

@@ -1,17 +1,18 @@
 -- An input gives one thing.
 use Rattle.std.proofs.Common.{◌≡◌, ◌≢◌, ◌⊎◌, inl, inr, ℕ, List, ◌++◌, Option, Some, None, Result, Ok, Err, take, refl, sym, ap, subst, ◌∙◌}
-use Rattle.stream_tokens.specs.JobTexts.{job_texts_of, version_of}
+use Rattle.stream_tokens.specs.JobTexts.{job_texts_within, version_within}
 use Rattle.columns.specs.declared.fault.ColumnFault.{ColumnFault}
 use Rattle.columns.specs.declared.fault.ColumnFault.TheVariants as column
-use Rattle.columns.specs.Table.{NamedColumn}
+use Rattle.tables.specs.Table.{NamedColumn}
 use Rattle.job_language.specs.declared.fault.JobFault.{JobFault}
-use Rattle.job_language.specs.Files.{IsRefused, SpellsJobs}
+use Rattle.job_language.specs.Files.{IsRefusedWithin, SpellsJobsWithin}
 use Rattle.job_language.specs.Jobs.{AbstractJob, names_of}
 use Rattle.job_language.proofs.EachFile.{each_file}
+use Rattle.job_language.proofs.LaterVersions.{reads_more}
 use Rattle.job_language.proofs.OneFile.{left_once}
 use Rattle.job_meaning.specs.FileAnswers.{meaning_of}
 use Rattle.engine.specs.declared.fault.EngineFault.TheVariants as engine_fault
-use Rattle.engine.specs.Outcomes.{HasJobsRefused, HasOutcome, Outcome, columns_refused, jobs_refused, reports}
+use Rattle.engine.specs.Outcomes.{HasJobsRefused, HasOutcome, Outcome, columns_refused, in_language, jobs_refused, reports}
 use Rattle.engine.specs.Run.{Faulted, Input, IsColumnFault, IsReport, Reported, columns_of, report_in}
 
 columns_once : (input : Input) (a b : List NamedColumn) → columns_of input.columns ≡ Ok a → columns_of input.columns ≡ Ok b → a ≡ b
@@ -20,23 +21,23 @@ columns_once input a b h k = let e = sym h ∙ k in cc
 pub report_once : (input : Input) (a b : List ℕ) → IsReport input a → IsReport input b → a ≡ b
 report_once input a b h k =
     let columns = columns_once input h.columns k.columns h.given k.given in
-    let spelled = subst (λ (cs : List NamedColumn). SpellsJobs input.jobs cs h.jobs) columns h.spelled in
-    let e = left_once (version_of input.jobs) k.columns (job_texts_of input.jobs) (Ok h.jobs) (Ok k.jobs) spelled k.spelled in
+    let spelled = subst (λ (cs : List NamedColumn). SpellsJobsWithin input.asked.newest input.jobs cs h.jobs) columns h.spelled in
+    let e = left_once (version_within input.asked.newest input.jobs) k.columns (job_texts_within input.asked.newest input.jobs) (Ok h.jobs) (Ok k.jobs) spelled k.spelled in
     let jobs : h.jobs ≡ k.jobs = cc in
-    h.written ∙ ap (λ (js : List AbstractJob). report_in input.form (names_of js) (meaning_of js)) jobs ∙ sym k.written
+    h.written ∙ ap (λ (js : List AbstractJob). report_in input.asked.form (names_of js) (meaning_of js)) jobs ∙ sym k.written
 
 refusal_once : (input : Input) (f g : JobFault) → HasJobsRefused input f → HasJobsRefused input g → f ≡ g
 refusal_once input f g h k =
     let columns = columns_once input h.columns k.columns h.given k.given in
-    let refused = subst (λ (cs : List NamedColumn). IsRefused input.jobs cs f) columns h.refused in
-    let e = left_once (version_of input.jobs) k.columns (job_texts_of input.jobs) (Err f) (Err g) refused k.refused in
+    let refused = subst (λ (cs : List NamedColumn). IsRefusedWithin input.asked.newest input.jobs cs f) columns h.refused in
+    let e = left_once (version_within input.asked.newest input.jobs) k.columns (job_texts_within input.asked.newest input.jobs) (Err f) (Err g) refused k.refused in
     cc
 
 never_both : (input : Input) (a : List ℕ) (f : JobFault) → IsReport input a → HasJobsRefused input f → (o p : Outcome) → o ≡ p
 never_both input a f h k o p =
     let columns = columns_once input h.columns k.columns h.given k.given in
-    let spelled = subst (λ (cs : List NamedColumn). SpellsJobs input.jobs cs h.jobs) columns h.spelled in
-    let e = left_once (version_of input.jobs) k.columns (job_texts_of input.jobs) (Ok h.jobs) (Err f) spelled k.refused in
+    let spelled = subst (λ (cs : List NamedColumn). SpellsJobsWithin input.asked.newest input.jobs cs h.jobs) columns h.spelled in
+    let e = left_once (version_within input.asked.newest input.jobs) k.columns (job_texts_within input.asked.newest input.jobs) (Ok h.jobs) (Err f) spelled k.refused in
     absurd (cc)
 
 table_or_none : (input : Input) (columns : List NamedColumn) (f : ColumnFault) → columns_of input.columns ≡ Ok columns → columns_of input.columns ≡ Err f → (o p : Outcome) → o ≡ p
@@ -57,13 +58,13 @@ pub each_outcome : (input : Input) → (o : Outcome) × HasOutcome input o
 each_outcome input = by_columns (columns_of input.columns) refl
   where
     by_jobs : (columns : List NamedColumn) → columns_of input.columns ≡ Ok columns
-        → ((jobs : List AbstractJob) × SpellsJobs input.jobs columns jobs) ⊎ ((fault : JobFault) × IsRefused input.jobs columns fault) → (o : Outcome) × HasOutcome input o
+        → ((jobs : List AbstractJob) × SpellsJobsWithin input.asked.newest input.jobs columns jobs) ⊎ ((fault : JobFault) × IsRefusedWithin input.asked.newest input.jobs columns fault) → (o : Outcome) × HasOutcome input o
     by_jobs columns is (inl h) =
-        (reports (report_in input.form (names_of h.0) (meaning_of h.0)), record { columns = columns; given = is; jobs = h.0; spelled = h.1; written = refl })
+        (reports (report_in input.asked.form (names_of h.0) (meaning_of h.0)), record { columns = columns; given = is; jobs = h.0; spelled = h.1; written = refl })
     by_jobs columns is (inr h) = (jobs_refused h.0, record { columns = columns; given = is; refused = h.1 })
 
     by_columns : (r : Result (List NamedColumn) ColumnFault) → columns_of input.columns ≡ r → (o : Outcome) × HasOutcome input o
-    by_columns (Ok columns) is = by_jobs columns is (each_file input.jobs columns)
+    by_columns (Ok columns) is = by_jobs columns is (each_file input.asked.newest input.jobs columns)
     by_columns (Err f) is = (columns_refused f, is)
 
 pub columns_said : (file : Option (List ℕ)) (f : ColumnFault) → IsColumnFault file f → f ≢ column.Read → f ≢ column.NoMemory → columns_of file ≡ Err f
@@ -78,3 +79,8 @@ written_once input before (Some x) (Some y) h k = ap Some (h.2 ∙ ap (λ (r : L
 pub cut_once : (input : Input) (before report : List ℕ) (after : Option (List ℕ)) (n : ℕ) → Faulted input (Some before) after (engine_fault.Write n) → IsReport input report → after ≡ Some (before ++ take n report)
 cut_once input before report None n h k = absurd h.3
 cut_once input before report (Some x) n h k = ap Some (h.3 ∙ ap (λ (r : List ℕ). before ++ take n r) (report_once input h.0 report h.1 k))
+
+pub later_report : (input : Input) (report : List ℕ) → input.asked.newest ≡ 2 → IsReport input report → IsReport (in_language 3 input) report
+later_report input report two h =
+    let spelled = subst (λ (n : ℕ). SpellsJobsWithin n input.jobs h.columns h.jobs) two h.spelled in
+    record { columns = h.columns; given = h.given; jobs = h.jobs; spelled = reads_more input.jobs h.columns h.jobs spelled; written = h.written }

@@ -5,8 +5,8 @@ use Rattle.std.specs.Io.KnownBytes.{Keeps}
 use Rattle.columns.specs.declared.fault.ColumnFault.{ColumnFault}
 use Rattle.columns.specs.declared.fault.ColumnFault.TheVariants as column
 use Rattle.columns.specs.Cells.{IsAnswerTo, cells_of}
-use Rattle.columns.specs.Table.{NamedColumn}
-use Rattle.run_settings.specs.declared.settings.Form.{Form}
+use Rattle.tables.specs.Table.{NamedColumn}
+use Rattle.run_settings.specs.Asked.{Asked}
 use Rattle.engine.specs.declared.fault.EngineFault.{EngineFault}
 use Rattle.engine.specs.declared.fault.EngineFault.TheVariants.{Columns, Jobs, JobsRead, NoMemory, Write}
 use Rattle.engine.specs.Given.{HoldsWith, IsFile, IsGiven, IsWhole}
@@ -54,13 +54,13 @@ no_table remaining columns table is none_there = record { file = None; is = rw i
 -- ---- the faults
 
 -- a refused column file; the job file is any that its reader may hold
-pub columns_refused : {C : Type 0} (remaining : C → Option (List ℕ)) (columns : Option (MutBor C)) (jobs : Option (List ℕ)) (wanted : Form) (before after : Option (List ℕ)) (reader : MutBor C)
+pub columns_refused : {C : Type 0} (remaining : C → Option (List ℕ)) (columns : Option (MutBor C)) (jobs : Option (List ℕ)) (asked : Asked) (before after : Option (List ℕ)) (reader : MutBor C)
     (r : Result (List NamedColumn) ColumnFault) (f : ColumnFault) → columns ≡ Some reader → IfSome (remaining reader.now) (λ bytes. IsAnswerTo bytes r) → ((bytes : List ℕ) × IsAnswerTo bytes r) → r ≡ Err f
-    → Keeps before after → (input : Input) × IsGiven remaining columns jobs wanted input × Faulted input before after (Columns f)
-columns_refused remaining columns jobs wanted before after reader r f is known some_bytes err keeps =
+    → Keeps before after → (input : Input) × IsGiven remaining columns jobs asked input × Faulted input before after (Columns f)
+columns_refused remaining columns jobs asked before after reader r f is known some_bytes err keeps =
     let (bytes, whole, answer) = whole_answer (remaining reader.now) r known some_bytes in
     let rest = some_whole jobs in
-    (record { columns = Some bytes; jobs = rest.0; form = wanted }, record { columns_file = rw is (bytes, refl, whole); jobs_file = rest.1; form = refl }, (answered_err bytes r f answer err, keeps))
+    (record { columns = Some bytes; jobs = rest.0; asked = asked }, record { columns_file = rw is (bytes, refl, whole); jobs_file = rest.1; asked_for = refl }, (answered_err bytes r f answer err, keeps))
 
 -- a fault after the columns were read says this of the input, and nothing was written
 pub early_fault : (input : Input) (before after : Option (List ℕ)) (f : EngineFault) → Says input f → IsEarly f → Keeps before after → Faulted input before after f
@@ -83,17 +83,17 @@ on_ok (Ok x) P h = h
 on_ok (Err e) P h = tt
 
 -- what holds with the columns of a file holds of what the run is given
-given_with : {C : Type 0} (remaining : C → Option (List ℕ)) (columns : Option (MutBor C)) (jobs : Option (List ℕ)) (wanted : Form) (table : List NamedColumn) (P : Input → Type 0)
-    → HasTable remaining columns table → HoldsWith table jobs wanted P → (input : Input) × IsGiven remaining columns jobs wanted input × P input
-given_with remaining columns jobs wanted table P t (bytes, whole, holds) =
-    (record { columns = t.file; jobs = bytes; form = wanted }, record { columns_file = t.is; jobs_file = whole; form = refl }, holds t.file t.gives)
+given_with : {C : Type 0} (remaining : C → Option (List ℕ)) (columns : Option (MutBor C)) (jobs : Option (List ℕ)) (asked : Asked) (table : List NamedColumn) (P : Input → Type 0)
+    → HasTable remaining columns table → HoldsWith table jobs asked P → (input : Input) × IsGiven remaining columns jobs asked input × P input
+given_with remaining columns jobs asked table P t (bytes, whole, holds) =
+    (record { columns = t.file; jobs = bytes; asked = asked }, record { columns_file = t.is; jobs_file = whole; asked_for = refl }, holds t.file t.gives)
 
-pub ok_with : {C X : Type 0} (remaining : C → Option (List ℕ)) (columns : Option (MutBor C)) (jobs : Option (List ℕ)) (wanted : Form) (table : List NamedColumn) (r : Result X EngineFault) (P : Input → Type 0)
-    → HasTable remaining columns table → OnOk r (HoldsWith table jobs wanted P) → OnOk r ((input : Input) × IsGiven remaining columns jobs wanted input × P input)
-ok_with remaining columns jobs wanted table (Ok x) P t h = given_with remaining columns jobs wanted table P t h
-ok_with remaining columns jobs wanted table (Err f) P t h = tt
+pub ok_with : {C X : Type 0} (remaining : C → Option (List ℕ)) (columns : Option (MutBor C)) (jobs : Option (List ℕ)) (asked : Asked) (table : List NamedColumn) (r : Result X EngineFault) (P : Input → Type 0)
+    → HasTable remaining columns table → OnOk r (HoldsWith table jobs asked P) → OnOk r ((input : Input) × IsGiven remaining columns jobs asked input × P input)
+ok_with remaining columns jobs asked table (Ok x) P t h = given_with remaining columns jobs asked table P t h
+ok_with remaining columns jobs asked table (Err f) P t h = tt
 
-pub err_with : {C X : Type 0} (remaining : C → Option (List ℕ)) (columns : Option (MutBor C)) (jobs : Option (List ℕ)) (wanted : Form) (table : List NamedColumn) (r : Result X EngineFault) (P : EngineFault → Input → Type 0)
-    → HasTable remaining columns table → IfErr r (λ f. HoldsWith table jobs wanted (P f)) → IfErr r (λ f. (input : Input) × IsGiven remaining columns jobs wanted input × P f input)
-err_with remaining columns jobs wanted table (Ok x) P t h = tt
-err_with remaining columns jobs wanted table (Err f) P t h = given_with remaining columns jobs wanted table (P f) t h
+pub err_with : {C X : Type 0} (remaining : C → Option (List ℕ)) (columns : Option (MutBor C)) (jobs : Option (List ℕ)) (asked : Asked) (table : List NamedColumn) (r : Result X EngineFault) (P : EngineFault → Input → Type 0)
+    → HasTable remaining columns table → IfErr r (λ f. HoldsWith table jobs asked (P f)) → IfErr r (λ f. (input : Input) × IsGiven remaining columns jobs asked input × P f input)
+err_with remaining columns jobs asked table (Ok x) P t h = tt
+err_with remaining columns jobs asked table (Err f) P t h = given_with remaining columns jobs asked table (P f) t h

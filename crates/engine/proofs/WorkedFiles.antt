@@ -8,7 +8,7 @@ use Rattle.stream_tokens.specs.declared.symbol.Symbol.TheVariants as symbol
 use Rattle.stream_tokens.specs.declared.token.Token.{Token}
 use Rattle.stream_tokens.specs.declared.token.TokenKind.{TokenKind}
 use Rattle.stream_tokens.specs.declared.token.TokenKind.TheVariants as kind
-use Rattle.stream_tokens.specs.JobTexts.{job_texts_of, version_of}
+use Rattle.stream_tokens.specs.JobTexts.{job_texts_within, version_within}
 use Rattle.stream_tokens.specs.Tokens.{AreTokensOf}
 use Rattle.stream_tokens.proofs.FrontReads.{number_plain}
 use Rattle.stream_tokens.proofs.Longest.{longest_name, longest_symbol}
@@ -241,7 +241,7 @@ is_written = record {
 
 -- the job that it means
 abbrev meant_job : AbstractJob
-meant_job = record { name = codes "s"; sources = values (pos 1 ∷ []) ∷ []; stages = prefix (Some (0, 2)) op.Sum ∷ []; terminal = count; on_fault = Some (negsuc 0) }
+meant_job = record { name = codes "s"; sources = values (pos 1 ∷ []) ∷ []; stages = prefix (Some (0, 2)) op.Sum ∷ []; terminal = count; on_fault = Some (negsuc 0); table = [] }
 
 read_in_version_two : IsRead (scope_below 2 [] []) job_text (Ok meant_job)
 read_in_version_two = inside (record {
@@ -270,9 +270,9 @@ refused_in_version_one : IsRead (scope_below 1 [] []) job_text (Err cause.Syntax
 refused_in_version_one = inside (record { short = leb-true (length job_text) 65536 refl; tokens = tokens; cut = tokens_cut; job = written_job; is = is_written; read = refl })
 
 pub report_in_version_two : IsReport in_version_two (codes "s = -1\n")
-unfolding job_texts_of version_of int_wrap digits
+unfolding job_texts_within version_within int_wrap digits
 report_in_version_two = record { columns = []; given = refl; jobs = meant_job ∷ []; spelled = inr (meant_job, inr (omega arith, read_in_version_two), refl); written = refl }
 
 pub refusal_in_version_one : HasJobsRefused in_version_one (record { line = 1; cause = cause.Syntax })
-unfolding job_texts_of version_of
+unfolding job_texts_within version_within
 refusal_in_version_one = record { columns = []; given = refl; refused = inl (cause.Syntax, inr (omega arith, refused_in_version_one), refl) }

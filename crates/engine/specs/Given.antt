@@ -1,12 +1,15 @@
 -- Condition: what the readers of a run hold, and whether a read of the column file failed.
-use Rattle.std.specs.Prelude.{◌≡◌, ℕ, ◌⊎◌, ⊤, List, Option, Some, None, IfSome, Result, Ok, IfErr, OnOk}
+use Rattle.std.specs.Prelude.{◌≡◌, ◌≢◌, ℕ, ◌⊎◌, ⊤, List, Option, Some, None, IfSome, Result, Ok, IfErr, OnOk}
 use Rattle.std.specs.Borrow.{MutBor}
-use Rattle.std.specs.Io.KnownBytes.{IsAtEnd}
+use Rattle.std.specs.Io.KnownBytes.{IsAtEnd, Keeps}
 use Rattle.std.proofs.Common.{inl, inr}
-use Rattle.columns.specs.Table.{NamedColumn}
-use Rattle.run_settings.specs.declared.settings.Form.{Form}
+use Rattle.columns.specs.declared.fault.ColumnFault.{ColumnFault}
+use Rattle.columns.specs.declared.fault.ColumnFault.TheVariants as column
+use Rattle.tables.specs.Table.{NamedColumn}
+use Rattle.run_settings.specs.Asked.{Asked}
 use Rattle.counted_io.specs.FailureCounts.{HasRisen}
 use Rattle.engine.specs.declared.fault.EngineFault.{EngineFault}
+use Rattle.engine.specs.declared.fault.EngineFault.TheVariants.{Columns, JobsRead, Write}
 use Rattle.engine.specs.Run.{Faulted, Input, Reported, columns_of}
 
 -- these are the bytes that a reader has left, if it is known which these are
@@ -18,11 +21,11 @@ abbrev pub IsFile : {C : Type 0} → (C → Option (List ℕ)) → Option (MutBo
 IsFile remaining None file = file ≡ None
 IsFile remaining (Some reader) file = (bytes : List ℕ) × (file ≡ Some bytes) × IsWhole (remaining reader.now) bytes
 
--- this is what a run is given: the files of its two readers, and the form of the report
-pub record IsGiven {C : Type 0} (remaining : C → Option (List ℕ)) (columns : Option (MutBor C)) (jobs : Option (List ℕ)) (wanted : Form) (input : Input) : Type 0 where
+-- this is what a run is given: the files of its two readers, and what its settings ask for
+pub record IsGiven {C : Type 0} (remaining : C → Option (List ℕ)) (columns : Option (MutBor C)) (jobs : Option (List ℕ)) (asked : Asked) (input : Input) : Type 0 where
   pub columns_file : IsFile remaining columns input.columns
   pub jobs_file : IsWhole jobs input.jobs
-  pub form : input.form ≡ wanted
+  pub asked_for : input.asked ≡ asked
 
 -- the count of failures of an optional reader has risen; the second is the reader as the call leaves it
 abbrev pub HasRisenThere : {C : Type 0} → (C → ℕ) → Option (MutBor C) → Unit {0} ⊎ ((MutBor C × Unit {0}) ⊎ ⊥) → Type 0
@@ -35,15 +38,33 @@ IsAtEndThere remaining None after = ⊤
 IsAtEndThere remaining (Some before) (inr (inl after)) = IsAtEnd (remaining after.0.now)
 IsAtEndThere remaining (Some before) after = ⊥
 
--- this holds of a job file that a reader has left, with any column file that gives these columns, and with this form
-abbrev pub HoldsWith : List NamedColumn → Option (List ℕ) → Form → (Input → Type 0) → Type 0
-HoldsWith columns jobs wanted P =
+-- this holds of a job file that a reader has left, with any column file that gives these columns, and with what is asked for
+abbrev pub HoldsWith : List NamedColumn → Option (List ℕ) → Asked → (Input → Type 0) → Type 0
+HoldsWith columns jobs asked P =
     (bytes : List ℕ) × IsWhole jobs bytes
-    × ((file : Option (List ℕ)) → columns_of file ≡ Ok columns → P (record { columns = file; jobs = bytes; form = wanted }))
+    × ((file : Option (List ℕ)) → columns_of file ≡ Ok columns → P (record { columns = file; jobs = bytes; asked = asked }))
 
--- the answer of a run over these readers, with this form of the report and a writer that held these bytes before and
+-- the answer of a run over these readers, what is asked for, and a writer that held these bytes before and
 -- those after: the report was written, or a fault says why not
-abbrev pub IsAnswered : {C X : Type 0} → (C → Option (List ℕ)) → Option (MutBor C) → Option (List ℕ) → Form → Option (List ℕ) → Option (List ℕ) → Result X EngineFault → Type 0
-IsAnswered remaining columns jobs wanted before after answer =
-    OnOk answer ((input : Input) × IsGiven remaining columns jobs wanted input × Reported input before after)
-    × IfErr answer (λ fault. (input : Input) × IsGiven remaining columns jobs wanted input × Faulted input before after fault)
+abbrev pub IsAnswered : {C X : Type 0} → (C → Option (List ℕ)) → Option (MutBor C) → Option (List ℕ) → Asked → Option (List ℕ) → Option (List ℕ) → Result X EngineFault → Type 0
+IsAnswered remaining columns jobs asked before after answer =
+    OnOk answer ((input : Input) × IsGiven remaining columns jobs asked input × Reported input before after)
+    × IfErr answer (λ fault. (input : Input) × IsGiven remaining columns jobs asked input × Faulted input before after fault)
+
+-- a reader or a writer: the bytes that it has left, or holds, if it is known which these are, and how often it failed
+pub record CountedBytes : Type 0 where
+  pub bytes : Option (List ℕ)
+  pub failures : ℕ
+
+-- what a run leaves of its readers and its writer, after this answer: after a report the files are read up; after the
+-- refusal of a column file the job file is as it was; if no write failed nothing was written; and a failed read or
+-- write was counted
+pub record IsLeft {C X : Type 0} (remaining : C → Option (List ℕ)) (failures : C → ℕ) (columns : Option (MutBor C)) (columns_after : Unit {0} ⊎ ((MutBor C × Unit {0}) ⊎ ⊥)) (jobs jobs_after writer writer_after : CountedBytes) (answer : Result X EngineFault) : Type 0 where
+  pub read_up : OnOk answer (IsAtEnd jobs_after.bytes)
+  pub columns_read_up : OnOk answer (IsAtEndThere remaining columns columns_after)
+  pub unread : IfErr answer (λ fault. (cause : ColumnFault) → fault ≡ Columns cause → (jobs_after.bytes ≡ jobs.bytes) × (jobs_after.failures ≡ jobs.failures))
+  pub unwritten : IfErr answer (λ fault. ((n : ℕ) → fault ≢ Write n) → Keeps writer.bytes writer_after.bytes)
+  pub untouched : IfErr answer (λ fault. ((n : ℕ) → fault ≢ Write n) → writer_after.failures ≡ writer.failures)
+  pub columns_failed : IfErr answer (λ fault. fault ≡ Columns column.Read → HasRisenThere failures columns columns_after)
+  pub read_failed : IfErr answer (λ fault. fault ≡ JobsRead → HasRisen jobs.failures jobs_after.failures)
+  pub write_failed : IfErr answer (λ fault. (n : ℕ) → fault ≡ Write n → HasRisen writer.failures writer_after.failures)

@@ -1,9 +1,9 @@
--- Design: what an input gives: a report, or the refusal of one of its files. No setting of a run is a part of it.
+-- Design: what an input gives: a report, or the refusal of one of its files. Of the settings of a run only what they ask for is a part of it.
 use Rattle.std.specs.Prelude.{◌≡◌, ℕ, List, Ok, Err}
 use Rattle.columns.specs.declared.fault.ColumnFault.{ColumnFault}
-use Rattle.columns.specs.Table.{NamedColumn}
+use Rattle.tables.specs.Table.{NamedColumn}
 use Rattle.job_language.specs.declared.fault.JobFault.{JobFault}
-use Rattle.job_language.specs.Files.{IsRefused}
+use Rattle.job_language.specs.Files.{IsRefusedWithin}
 use Rattle.engine.specs.Run.{Input, IsReport, columns_of}
 
 -- what an input may give
@@ -16,7 +16,11 @@ pub data Outcome : Type 0 where
 pub record HasJobsRefused (input : Input) (f : JobFault) : Type 0 where
   pub columns : List NamedColumn
   pub given : columns_of input.columns ≡ Ok columns
-  pub refused : IsRefused input.jobs columns f
+  pub refused : IsRefusedWithin input.asked.newest input.jobs columns f
+
+-- the input, with this newest version of job files
+abbrev pub in_language : ℕ → Input → Input
+in_language newest input = record input { asked = record { form = input.asked.form; newest = newest } }
 
 -- the input gives this
 abbrev pub HasOutcome : Input → Outcome → Type 0

@@ -17,10 +17,10 @@ use Rattle.std.specs.Io.KnownBytes.{Appends, Keeps}
 use Rattle.columns.specs.declared.fault.ColumnFault.{ColumnFault}
 use Rattle.columns.specs.declared.fault.ColumnFault.TheVariants as column
 use Rattle.columns.specs.Cells.{cells_of}
-use Rattle.columns.specs.Table.{NamedColumn}
+use Rattle.tables.specs.Table.{NamedColumn}
 use Rattle.job_language.specs.declared.fault.Cause.TheVariants as cause
 use Rattle.job_language.specs.declared.fault.JobFault.{JobFault}
-use Rattle.job_language.specs.Files.{IsRefused}
+use Rattle.job_language.specs.Files.{IsRefusedWithin}
 use Rattle.engine.specs.declared.fault.EngineFault.{EngineFault}
 use Rattle.engine.specs.declared.fault.EngineFault.TheVariants.{Columns, Jobs, JobsRead, NoMemory, Write}
 pub use Rattle.report.specs.Reports.{Input, IsReport, columns_of, report_in}
@@ -42,7 +42,7 @@ HasColumns input = (columns : List NamedColumn) × (columns_of input.columns ≡
 pub record IsJobFault (input : Input) (f : JobFault) : Type 0 where
   pub columns : List NamedColumn
   pub given : columns_of input.columns ≡ Ok columns
-  pub refused : f.cause ≢ cause.NoMemory → IsRefused input.jobs columns f
+  pub refused : f.cause ≢ cause.NoMemory → IsRefusedWithin input.asked.newest input.jobs columns f
   pub memory : f.cause ≡ cause.NoMemory → f.line ≡ 0
 
 -- what a fault other than a failed write says of the input

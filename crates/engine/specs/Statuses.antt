@@ -24,6 +24,7 @@ status_of_cause cause.TooLong = 1
 status_of_cause (cause.Expr f) = 1
 status_of_cause cause.NoMemory = 3
 status_of_cause cause.NotScalar = 1
+status_of_cause cause.NoRow = 1
 
 -- of a refused column file: 1, 3 if memory for it was refused, and 4 if a read failed
 abbrev pub status_of_columns : ColumnFault → ℕ

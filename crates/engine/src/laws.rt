@@ -6,7 +6,7 @@ ghost use Rattle.columns.specs.declared.fault.ColumnFault.TheVariants as column;
 ghost use Rattle.job_language.specs.declared.fault.Cause.TheVariants as cause;
 ghost use Rattle.job_language.specs.declared.fault.JobFault.{JobFault as meant_job_fault};
 ghost use Rattle.engine.specs.declared.fault.EngineFault.TheVariants as engine_fault;
-ghost use Rattle.engine.specs.Outcomes.{HasOutcome, Outcome, columns_refused, jobs_refused};
+ghost use Rattle.engine.specs.Outcomes.{HasOutcome, Outcome, columns_refused, in_language, jobs_refused};
 ghost use Rattle.engine.specs.Run.{Faulted, Input, IsReport, Reported, Says};
 ghost use Rattle.engine.specs.Worked.{in_version_one, in_version_two};
 
@@ -42,4 +42,10 @@ pub fn settings_change_no_byte()
 pub fn worked_files()
     ensures two { IsReport in_version_two (codes "s = -1\n") }
     ensures one { HasOutcome in_version_one (jobs_refused (record { line = 1; cause = cause.Syntax })) }
+{}
+
+/// A report where version 2 of the language is the newest is the report where version 3 is.
+pub fn a_later_language_changes_no_report()
+    ensures { (input : Input) (report : List ℕ) → input.asked.newest ≡ 2 → IsReport input report
+        → IsReport (in_language 3 input) report }
 {}

@@ -19,7 +19,8 @@ mod telling;
 pub use fault::EngineFault;
 pub use gate::RunGate;
 pub use laws::{
-    each_input_has_one_outcome, refusals_are_outcomes, settings_change_no_byte, worked_files,
+    a_later_language_changes_no_report, each_input_has_one_outcome, refusals_are_outcomes,
+    settings_change_no_byte, worked_files,
 };
 pub use running::run;
 pub use telling::{status_after, tell, write_line};

@@ -7,6 +7,7 @@ ghost use Rattle.engine.specs.Run.{Faulted, Input, IsReport, Reported, Says, col
 ghost use Rattle.job_language.specs.Jobs.{jobs_of, names_of};
 ghost use Rattle.job_meaning.specs.FileAnswers.{meaning_of};
 ghost use Rattle.job_plan.specs.Plans.{plan_names};
+ghost use Rattle.run_settings.specs.Asked.{asked_of};
 ghost use Rattle.run_settings.specs.SettingsParts.{form_of};
 ghost use Rattle.report.specs.Named.{IsNamed, IsText};
 ghost use Rattle.std.specs.Io.KnownBytes.{IsAtEnd, Keeps};
@@ -17,7 +18,7 @@ use crate::fault::EngineFault;
 use crate::gate::RunGate;
 use columns::{ColumnFault, Columns, read_columns_by};
 use counted_io::{CountedRead, CountedWrite, ReadAllFault, WriteFault, read_all_of};
-use job_language::{Job, read_jobs};
+use job_language::{Job, read_jobs_within};
 use job_meaning::Answer;
 use job_plan::{JobPlan, Plan};
 use job_table::{RunFault, run_jobs};
@@ -62,10 +63,10 @@ pub fn run<
     // The headline: after what the writer held before, it holds the report of the jobs that the bytes spell. The input
     // is what the readers held, and some bytes for a reader whose bytes aren't known.
     ensures report { OnOk result ((input : Input)
-        × IsGiven C.remaining columns.entry (J.remaining jobs.old) (form_of settings.now) input
+        × IsGiven C.remaining columns.entry (J.remaining jobs.old) (asked_of settings.now) input
         × Reported input (W.contents writer.old) (W.contents writer.new)) }
     ensures fault { IfErr result (λ fault. (input : Input)
-        × IsGiven C.remaining columns.entry (J.remaining jobs.old) (form_of settings.now) input
+        × IsGiven C.remaining columns.entry (J.remaining jobs.old) (asked_of settings.now) input
         × Faulted input (W.contents writer.old) (W.contents writer.new) fault) }
 
     ensures read_up { OnOk result (IsAtEnd (J.remaining jobs.new)) }
@@ -108,9 +109,9 @@ fn run_with<H: Threads + Wait + Sync, J: CountedRead, W: CountedWrite, G: RunGat
     settings: &Settings,
     gate: &G,
 ) -> Result<(), EngineFault>
-    ensures report { OnOk result (HoldsWith columns (J.remaining jobs.old) (form_of settings.now)
+    ensures report { OnOk result (HoldsWith columns (J.remaining jobs.old) (asked_of settings.now)
         (λ input. Reported input (W.contents writer.old) (W.contents writer.new))) }
-    ensures fault { IfErr result (λ fault. HoldsWith columns (J.remaining jobs.old) (form_of settings.now)
+    ensures fault { IfErr result (λ fault. HoldsWith columns (J.remaining jobs.old) (asked_of settings.now)
         (λ input. Faulted input (W.contents writer.old) (W.contents writer.new) fault)) }
     ensures read_up { OnOk result (IsAtEnd (J.remaining jobs.new)) }
     ensures columns { IfErr result (λ fault. (cause : ColumnFault) → fault ≢ EngineFault.Columns cause) }
@@ -143,10 +144,10 @@ fn report_from<H: Threads + Wait + Sync, J: CountedRead, G: RunGate + Sync>(
     settings: &Settings,
     gate: &G,
 ) -> Result<Report, EngineFault>
-    ensures ok { IfOk result (λ report. HoldsWith columns.now (J.remaining jobs.old) (form_of settings.now)
+    ensures ok { IfOk result (λ report. HoldsWith columns.now (J.remaining jobs.old) (asked_of settings.now)
         (λ input. IsReport input report)) }
     ensures end { OnOk result (IsAtEnd (J.remaining jobs.new)) }
-    ensures err { IfErr result (λ fault. HoldsWith columns.now (J.remaining jobs.old) (form_of settings.now)
+    ensures err { IfErr result (λ fault. HoldsWith columns.now (J.remaining jobs.old) (asked_of settings.now)
         (λ input. Says input fault)) }
     ensures early { IfErr result IsEarly }
     ensures read_failed { IfErr result (λ fault. fault ≡ EngineFault.JobsRead →
@@ -170,13 +171,13 @@ fn report_of<H: Threads + Wait + Sync, G: RunGate + Sync>(
     gate: &G,
 ) -> Result<Report, EngineFault>
     ensures ok { IfOk result (λ report. (file : Option (List ℕ)) → columns_of file ≡ Ok columns.now
-        → IsReport (record { columns = file; jobs = bytes.now; form = form_of settings.now }) report) }
+        → IsReport (record { columns = file; jobs = bytes.now; asked = asked_of settings.now }) report) }
     ensures err { IfErr result (λ fault. (file : Option (List ℕ)) → columns_of file ≡ Ok columns.now
-        → Says (record { columns = file; jobs = bytes.now; form = form_of settings.now }) fault) }
+        → Says (record { columns = file; jobs = bytes.now; asked = asked_of settings.now }) fault) }
     ensures early { IfErr result IsEarly }
     ensures read { IfErr result (λ fault. fault ≢ EngineFault.JobsRead) }
 {
-    let jobs = match read_jobs(alloc, bytes, columns) {
+    let jobs = match read_jobs_within(alloc, bytes, columns, settings.language().newest()) {
         Ok(jobs) => jobs,
         Err(fault) => return Err(EngineFault::Jobs(fault)),
     };

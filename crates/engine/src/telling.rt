@@ -12,6 +12,9 @@ use std::io;
 use std::io::Write;
 
 /// Writes the fault's line. After an error some bytes of it may have gone out.
+///
+/// A clause can't say that a line goes out at all, since a `Display` may answer an error; the runs of the program show
+/// it.
 pub fn write_line<W: Write>(fault: &EngineFault, writer: &mut W) -> io::Result<()>
     ensures { OnOk result (Appends (W.contents writer.old) (W.contents writer.new) (line_of fault.now)) }
 {

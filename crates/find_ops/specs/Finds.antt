@@ -5,7 +5,7 @@ use Rattle.lambda_values.specs.Earlier.{Numbers}
 use Rattle.lambda_values.specs.Term.{Truth, truth_of}
 use Rattle.lambda_values.specs.Value.{truth_value}
 use Rattle.lambda_values.specs.declared.fault.FaultKind.{FaultKind}
-use Rattle.trace.specs.declared.item.Item.{Item}
+use Rattle.lambda_values.specs.declared.item.Item.{Item}
 use Rattle.trace.specs.declared.item.Fault.{Fault}
 use Rattle.trace.specs.declared.item.End.{End}
 use Rattle.trace.specs.declared.item.End.TheVariants as end
@@ -54,9 +54,9 @@ tested n x f (Err k) = Some (Err (record { kind = k; stage = n; origin = Some x.
 -- what an item decides, if it decides: the answer, or the fault of the test
 abbrev pub decision : Find → ℕ → Numbers → Item → Option (Result Found Fault)
 decision first n env x = Some (Ok (found.Value (Some x.value)))
-decision (any_match p) n env x = tested n x (if_true (found.Truth true)) (truth_value p x.value env)
-decision (all_match p) n env x = tested n x (if_false (found.Truth false)) (truth_value p x.value env)
-decision (none_match p) n env x = tested n x (if_true (found.Truth false)) (truth_value p x.value env)
+decision (any_match p) n env x = tested n x (if_true (found.Truth true)) (truth_value p x env)
+decision (all_match p) n env x = tested n x (if_false (found.Truth false)) (truth_value p x env)
+decision (none_match p) n env x = tested n x (if_true (found.Truth false)) (truth_value p x env)
 
 -- the decision of the first item that decides
 abbrev pub first_decision : Find → ℕ → Numbers → List Item → Option (Result Found Fault)

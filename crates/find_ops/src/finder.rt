@@ -19,13 +19,13 @@ use trace::{End, Flow, Item, LongSink, NoMemory};
 pub struct Finder<'a> {
     terminal: &'a FindTerminal,
     stage: u32,
-    env: &'a Env,
+    env: &'a Env<'a>,
     part: FindPart,
 }
 
 impl<'a> Finder<'a> {
     /// A sink that has looked at no item. The terminal is the stage with this number.
-    pub fn new(terminal: &'a FindTerminal, stage: u32, env: &'a Env) -> Finder<'a>
+    pub fn new(terminal: &'a FindTerminal, stage: u32, env: &'a Env<'a>) -> Finder<'a>
         ensures terminal { result.terminal.now ≡ terminal.now }
         ensures stage { result.stage ≡ stage }
         ensures env { result.env.now ≡ env.now }

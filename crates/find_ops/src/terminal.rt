@@ -38,17 +38,17 @@ impl FindTerminal {
     {
         match self {
             FindTerminal::First => Some(Ok(Found::Value(Some(item.value)))),
-            FindTerminal::AnyMatch(test) => match test.eval(item.value, env) {
+            FindTerminal::AnyMatch(test) => match test.eval_at(item, env) {
                 Ok(true) => Some(Ok(Found::Truth(true))),
                 Ok(false) => None,
                 Err(kind) => Some(Err(fault_at(stage, item, kind))),
             },
-            FindTerminal::AllMatch(test) => match test.eval(item.value, env) {
+            FindTerminal::AllMatch(test) => match test.eval_at(item, env) {
                 Ok(true) => None,
                 Ok(false) => Some(Ok(Found::Truth(false))),
                 Err(kind) => Some(Err(fault_at(stage, item, kind))),
             },
-            FindTerminal::NoneMatch(test) => match test.eval(item.value, env) {
+            FindTerminal::NoneMatch(test) => match test.eval_at(item, env) {
                 Ok(true) => Some(Ok(Found::Truth(false))),
                 Ok(false) => None,
                 Err(kind) => Some(Err(fault_at(stage, item, kind))),

@@ -115,5 +115,5 @@ few_pushed true gs hs g e more few =
     subst (λ v. length v ≤ 32) (sym e) (omega (arith, length-append gs (g ∷ []), length_stages gs, length-append (job_stages_of gs) (job_stage_of g ∷ [])))
 few_pushed false gs hs g e more few = subst (λ v. length v ≤ 32) (sym e) few
 
-pub none_left : (s : Scope) (t : TokenizedText) (j : BegunJob) (ws : List Word) (cs : List written.WrittenCall) (i : ℕ) → length cs ≤ i → AreRead s t j (all_placed ws (drop i cs)) (finished j)
-none_left s t j ws cs i far = subst (λ v. AreRead s t j (all_placed ws v) (finished j)) (sym (drop_all i cs far)) refl
+pub none_left : (s : Scope) (t : TokenizedText) (j : BegunJob) (ws : List Word) (cs : List written.WrittenCall) (i : ℕ) → length cs ≤ i → AreRead s t j (all_placed ws (drop i cs)) (finished s j)
+none_left s t j ws cs i far = subst (λ v. AreRead s t j (all_placed ws v) (finished s j)) (sym (drop_all i cs far)) refl

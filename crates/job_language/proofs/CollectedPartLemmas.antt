@@ -3,7 +3,7 @@ use Rattle.std.proofs.Common.{◌≡◌, ◌≢◌, ℕ, suc, ◌+◌, ◌<◌, 
 use Rattle.std.proofs.lemmas.List.{drop_more}
 use Rattle.stream_tokens.specs.declared.symbol.Symbol.TheVariants as symbol
 use Rattle.lambda_expr.specs.Words.{Word, named, quoted, sign}
-use Rattle.lambda_expr.specs.Refusals.{IsRefused}
+use Rattle.lambda_expr.specs.Refusals.{IsRefusedWithin}
 use Rattle.lambda_expr.specs.declared.fault.ReadFault.{ReadFault}
 use Rattle.lambda_expr.specs.declared.fault.ReadFault.TheVariants as fault
 use Rattle.lambda_expr.specs.declared.want.Want.{Want}
@@ -14,7 +14,7 @@ use Rattle.job_language.specs.Table.{name_in, param_of, string_in}
 use Rattle.job_language.specs.FaultCauses.{cause_of}
 use Rattle.job_language.specs.Causes.{Scope, number_in, numbers_of}
 use Rattle.job_language.specs.Operators.{method_in}
-use Rattle.job_language.specs.Arguments.{IsLambdaRead}
+use Rattle.job_language.specs.Arguments.{IsLambdaRead, reads_cells}
 
 -- the numbers of a call from a part on
 pub values_more : (o : Operation) (n i : ℕ) (xs : List (List Word)) → i < length xs → numbers_of o n i (drop i xs) ≡ number_in (param_of o n i) (get_or xs i []) ++ numbers_of o n (i + 1) (drop (i + 1) xs)
@@ -48,6 +48,6 @@ no_method (named v ∷ sign symbol.DoubleColon ∷ named w ∷ d ∷ ws) h = ref
 no_method (a ∷ b ∷ c ∷ d ∷ ws) h = refl
 
 -- a lambda that is refused
-pub lambda_refused : (s : Scope) (text : List ℕ) (w : Want) (f : ReadFault) (e : Cause) → IsRefused text w f → e ≡ cause_of f → e ≢ cause.NoMemory → IsLambdaRead s text w (Err e)
+pub lambda_refused : (s : Scope) (text : List ℕ) (w : Want) (f : ReadFault) (e : Cause) → IsRefusedWithin (reads_cells s) text w f → e ≡ cause_of f → e ≢ cause.NoMemory → IsLambdaRead s text w (Err e)
 lambda_refused s text w fault.NoMemory e h is other = absurd (other is)
 lambda_refused s text w f e h is other = (Err f, h, ap Err (sym is))

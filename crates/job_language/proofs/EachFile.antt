@@ -1,5 +1,5 @@
 -- Bytes are a file of jobs, or are refused.
-use Rattle.std.proofs.Common.{◌≡◌, ◌⊎◌, inl, inr, ⊎_elim, ℕ, ◌<◌, ◌≤◌, Bool, true, false, List, [], ◌∷◌, ◌++◌, length, Result, Ok, Err, refl}
+use Rattle.std.proofs.Common.{◌≡◌, ◌⊎◌, inl, inr, ⊎_elim, ℕ, ◌<◌, ◌≤◌, Bool, true, false, List, [], ◌∷◌, ◌++◌, length, Option, Some, None, Result, Ok, Err, refl}
 use Rattle.std.proofs.str.Laws.{order}
 use Rattle.stream_tokens.specs.declared.job_text.JobText.{JobText}
 use Rattle.stream_tokens.specs.declared.job_text.TextFault.{TextFault}
@@ -7,12 +7,12 @@ use Rattle.stream_tokens.specs.declared.job_text.TextFault.TheVariants as text
 use Rattle.std.specs.List.{starts_with}
 use Rattle.std.specs.Prelude.{◌||◌, nat_eq, if◌then◌else◌}
 use Rattle.stream_tokens.specs.Bytes.{is_blank}
-use Rattle.stream_tokens.specs.JobTexts.{NumberedLine, begun, by_kind, is_version_line, job_texts_of, jobs_after, jobs_of_lines, kind_of, kind_of_solid, lines_in, texts_of_lines, version_of}
-use Rattle.columns.specs.Table.{NamedColumn}
+use Rattle.stream_tokens.specs.JobTexts.{NumberedLine, after_said, begun, by_kind, job_texts_within, jobs_after, jobs_of_lines, kind_of, kind_of_solid, lines_in, said_version, texts_of_lines, version_within}
+use Rattle.tables.specs.Table.{NamedColumn}
 use Rattle.job_language.specs.declared.fault.Cause.{Cause}
 use Rattle.job_language.specs.declared.fault.Cause.TheVariants.{Syntax, TooLong}
 use Rattle.job_language.specs.declared.fault.JobFault.{JobFault}
-use Rattle.job_language.specs.Files.{AreJobsLeft, AreJobsRead, IsNext, IsRefused, SpellsJobs, fault_at, scope_below}
+use Rattle.job_language.specs.Files.{AreJobsLeft, AreJobsRead, IsNext, IsRefusedWithin, SpellsJobsWithin, fault_at, scope_below}
 use Rattle.job_language.specs.Jobs.{AbstractJob}
 use Rattle.job_language.proofs.EachVerdict.{each_read}
 
@@ -62,28 +62,29 @@ no_memory [] h = absurd cc
 no_memory (line ∷ lines) h = by_line line.bytes line.number (jobs_of_lines lines) (Ok (jobs_after (begun line) lines)) (no_memory lines) (needs_none (jobs_after (begun line) lines)) h
 
 -- the first line that isn't skipped may say the version
-by_version : (v : Bool) (line : NumberedLine) (lines : List NumberedLine) → NeedsNone (if v then jobs_of_lines lines else jobs_of_lines (line ∷ lines))
-by_version true line lines h = no_memory lines h
-by_version false line lines h = no_memory (line ∷ lines) h
+by_version : (v : Option ℕ) (line : NumberedLine) (lines : List NumberedLine) → NeedsNone (after_said v (jobs_of_lines lines) (jobs_of_lines (line ∷ lines)))
+by_version (Some v) line lines h = no_memory lines h
+by_version None line lines h = no_memory (line ∷ lines) h
 
-no_memory_first : (lines : List NumberedLine) → NeedsNone (texts_of_lines lines)
-no_memory_first [] h = absurd cc
-no_memory_first (line ∷ lines) h =
-    by_line line.bytes line.number (texts_of_lines lines) (if is_version_line line.bytes then jobs_of_lines lines else jobs_of_lines (line ∷ lines))
-    (no_memory_first lines) (by_version (is_version_line line.bytes) line lines) h
+no_memory_first : (newest : ℕ) (lines : List NumberedLine) → NeedsNone (texts_of_lines newest lines)
+no_memory_first newest [] h = absurd cc
+no_memory_first newest (line ∷ lines) h =
+    by_line line.bytes line.number (texts_of_lines newest lines) (after_said (said_version newest line.bytes) (jobs_of_lines lines) (jobs_of_lines (line ∷ lines)))
+    (no_memory_first newest lines) (by_version (said_version newest line.bytes) line lines) h
 
-no_memory_in : (bytes : List ℕ) → job_texts_of bytes ≡ Err text.NoMemory → ⊥
-unfolding job_texts_of
-no_memory_in bytes h = no_memory_first (lines_in bytes) h
+no_memory_in : (newest : ℕ) (bytes : List ℕ) → job_texts_within newest bytes ≡ Err text.NoMemory → ⊥
+unfolding job_texts_within
+no_memory_in newest bytes h = no_memory_first newest (lines_in bytes) h
 
 left : (version : ℕ) (columns : List NamedColumn) (texts : Result (List JobText) TextFault) → (texts ≡ Err text.NoMemory → ⊥) → (r : Result (List AbstractJob) JobFault) × AreJobsLeft version columns [] texts r
 left version columns (Ok ts) other = each_jobs version columns [] ts
 left version columns (Err (text.Syntax line)) other = (Err (record { line = line; cause = Syntax }), refl)
 left version columns (Err text.NoMemory) other = absurd (other refl)
 
-by_result : (bytes : List ℕ) (columns : List NamedColumn) (r : Result (List AbstractJob) JobFault) → AreJobsLeft (version_of bytes) columns [] (job_texts_of bytes) r → ((jobs : List AbstractJob) × SpellsJobs bytes columns jobs) ⊎ ((fault : JobFault) × IsRefused bytes columns fault)
-by_result bytes columns (Ok jobs) h = inl (jobs, h)
-by_result bytes columns (Err fault) h = inr (fault, h)
+by_result : (newest : ℕ) (bytes : List ℕ) (columns : List NamedColumn) (r : Result (List AbstractJob) JobFault) → AreJobsLeft (version_within newest bytes) columns [] (job_texts_within newest bytes) r
+    → ((jobs : List AbstractJob) × SpellsJobsWithin newest bytes columns jobs) ⊎ ((fault : JobFault) × IsRefusedWithin newest bytes columns fault)
+by_result newest bytes columns (Ok jobs) h = inl (jobs, h)
+by_result newest bytes columns (Err fault) h = inr (fault, h)
 
-pub each_file : (bytes : List ℕ) (columns : List NamedColumn) → ((jobs : List AbstractJob) × SpellsJobs bytes columns jobs) ⊎ ((fault : JobFault) × IsRefused bytes columns fault)
-each_file bytes columns = let l = left (version_of bytes) columns (job_texts_of bytes) (no_memory_in bytes) in by_result bytes columns l.0 l.1
+pub each_file : (newest : ℕ) (bytes : List ℕ) (columns : List NamedColumn) → ((jobs : List AbstractJob) × SpellsJobsWithin newest bytes columns jobs) ⊎ ((fault : JobFault) × IsRefusedWithin newest bytes columns fault)
+each_file newest bytes columns = let l = left (version_within newest bytes) columns (job_texts_within newest bytes) (no_memory_in newest bytes) in by_result newest bytes columns l.0 l.1

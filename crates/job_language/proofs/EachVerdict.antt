@@ -6,7 +6,7 @@ use Rattle.stream_tokens.specs.Tokens.{AreTokensOf}
 use Rattle.stream_tokens.specs.CutTexts.{TokenizedText}
 use Rattle.lambda_expr.specs.Words.{Word, words_of}
 use Rattle.lambda_values.specs.Lambda.{AbstractLambda}
-use Rattle.lambda_expr.specs.Refusals.{IsRefused}
+use Rattle.lambda_expr.specs.Refusals.{IsRefusedWithin}
 use Rattle.lambda_expr.specs.declared.fault.ReadFault.{ReadFault}
 use Rattle.lambda_expr.specs.declared.fault.ReadFault.TheVariants as fault
 use Rattle.lambda_expr.specs.declared.want.Want.{Want}
@@ -21,27 +21,27 @@ use Rattle.job_language.specs.Rows.{AbstractCall, Argument, nothing, exact}
 use Rattle.job_language.specs.Table.{name_in, role_of, string_in}
 use Rattle.job_language.specs.Grammar.{Job, IsJob, IsNoJob}
 use Rattle.job_language.specs.Jobs.{AbstractJob}
-use Rattle.job_language.specs.Causes.{Scope, first_cause, stage_cause, early_causes, numbers_of}
+use Rattle.job_language.specs.Causes.{Scope, first_cause, stage_cause, early_causes, goes_over_rows, numbers_of}
 use Rattle.job_language.specs.Operators.{is_add_exact, spelled_op}
-use Rattle.job_language.specs.Arguments.{PlacedCall, IsOutcome, lambda_answer, IsLambdaRead, IsOperatorRead, IsReadBy, IsArgumentRead, last_param, last_part, argument_text, listed, name_answer, text_answer}
-use Rattle.job_language.specs.Verdicts.{BegunJob, call_answer, added, below_terminal, finished, IsNextCall, job_named, placed_calls, IsReadAfter, IsReadInTurn, AreRead, IsJobRead, IsRead}
+use Rattle.job_language.specs.Arguments.{PlacedCall, IsOutcome, lambda_answer, reads_cells, IsLambdaRead, IsOperatorRead, IsReadBy, IsArgumentRead, last_param, last_part, argument_text, listed, name_answer, text_answer}
+use Rattle.job_language.specs.Verdicts.{BegunJob, call_answer, added, below_terminal, finished, IsNextCall, job_named, placed_calls, IsReadAfter, IsReadInTurn, AreRead, IsJobRead, IsRead, scope_over}
 use Rattle.job_language.specs.Verdicts as verdict
 use Rattle.job_language.specs.Parts.{causes_before}
 use Rattle.job_language.proofs.EachCut.{each_cut}
 use Rattle.job_language.proofs.EachJob.{each_job}
 
-refused : (text : List ℕ) (w : Want) (f : ReadFault) → f ≢ fault.NoMemory → IsRefused text w f → IsOutcome text w (Err f)
-refused text w fault.NoMemory other h = absurd (other refl)
-refused text w x other h = h
+refused : (cells : Bool) (text : List ℕ) (w : Want) (f : ReadFault) → f ≢ fault.NoMemory → IsRefusedWithin cells text w f → IsOutcome cells text w (Err f)
+refused cells text w fault.NoMemory other h = absurd (other refl)
+refused cells text w x other h = h
 
-outcome : (text : List ℕ) (w : Want) → HasAnswer text w → (o : Result AbstractLambda ReadFault) × IsOutcome text w o
-outcome text w (inl l) = (Ok l.0, l.1)
-outcome text w (inr f) = (Err f.0, refused text w f.0 f.1 f.2)
+outcome : (cells : Bool) (text : List ℕ) (w : Want) → HasAnswer cells text w → (o : Result AbstractLambda ReadFault) × IsOutcome cells text w o
+outcome cells text w (inl l) = (Ok l.0, l.1)
+outcome cells text w (inr f) = (Err f.0, refused cells text w f.0 f.1 f.2)
 
 each_lambda : (s : Scope) (text : List ℕ) (w : Want) → (r : Result Argument Cause) × IsLambdaRead s text w r
 each_lambda s text w =
     let cut = each_cut text in
-    let o = outcome text w (each_text text cut.0 w cut.1) in
+    let o = outcome (reads_cells s) text w (each_text (reads_cells s) text cut.0 w cut.1) in
     (lambda_answer s o.0, (o.0, o.1, refl))
 
 each_operator : (b : Bool) (o : Option (Option Op)) (s : Scope) (text : List ℕ) → (r : Result Argument Cause) × IsOperatorRead b o s text r
@@ -79,14 +79,14 @@ rest_after s t j c cs (Err e) h later = (Err e, inl (e, h, refl))
 rest_after s t j c cs (Ok g) h later = let l = later g in (l.0, inr (g, h, l.1))
 
 each_rest : (s : Scope) (t : TokenizedText) (j : BegunJob) (cs : List PlacedCall) → HasRest s t j cs
-each_rest s t j [] = (finished j, refl)
+each_rest s t j [] = (finished s j, refl)
 each_rest s t j (c ∷ cs) =
     let here = each_turn (stage_cause (length j.stages) (role_of c.call.operation)) s t c in
     rest_after s t j c cs (below_terminal j.terminal here.0) (here.0, here.1, refl) (λ g. each_rest s t (added j g) cs)
 
 each_job_read : (o : Option Cause) (s : Scope) (t : TokenizedText) (j : Job) → (r : Result AbstractJob Cause) × IsJobRead o s t j r
 each_job_read (Some e) s t j = (Err e, refl)
-each_job_read None s t j = each_rest s t (job_named j.name) (placed_calls j)
+each_job_read None s t j = each_rest (scope_over s (goes_over_rows j)) t (job_named j.name) (placed_calls j)
 
 by_job : (s : Scope) (text : List ℕ) (ts : List Token) → length text ≤ 65536 → AreTokensOf ts text → ((j : Job) × IsJob (words_of text ts) j) ⊎ IsNoJob (words_of text ts) → (r : Result AbstractJob Cause) × IsRead s text r
 by_job s text ts short cut (inl j) =

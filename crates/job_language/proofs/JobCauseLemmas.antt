@@ -1,23 +1,21 @@
 -- Causes of a whole job, call by call.
-use Rattle.std.proofs.Common.{◌≡◌, ℕ, zero, suc, ◌+◌, ◌<◌, ◌≤◌, true, false, List, [], ◌∷◌, ◌++◌, length, get_or, Option, Some, None, refl, ap, sym, subst, ◌∙◌, append_assoc, arith}
-use Rattle.std.proofs.lemmas.List.{length-append}
+use Rattle.std.proofs.Common.{◌≡◌, ℕ, zero, suc, ◌+◌, ◌<◌, ◌≤◌, Bool, true, false, drop, List, [], ◌∷◌, ◌++◌, length, get_or, Option, Some, None, refl, ap, sym, subst, ◌∙◌, arith}
+use Rattle.std.proofs.lemmas.List.{drop_all, drop_more, length-append}
 use Rattle.lambda_expr.specs.Words.{Word}
 use Rattle.job_language.specs.declared.piece.WrittenCall as written
 use Rattle.job_language.specs.declared.fault.Cause.{Cause}
 use Rattle.job_language.specs.declared.fault.Cause.TheVariants.{Syntax, TooLong}
-use Rattle.job_language.specs.declared.operation.Role.TheVariants as role
-use Rattle.job_language.specs.Table.{role_of}
+use Rattle.job_language.specs.Table.{role_of, version_of_operation}
 use Rattle.job_language.specs.Calls.{Call, call_words}
 use Rattle.job_language.specs.Arguments.{PlacedCall}
 use Rattle.job_language.specs.Verdicts.{placed}
-use Rattle.job_language.specs.Grammar.{Source, Sources, plain, concat, two, more, Job, Piece, call, close, comma, piece_words, job_pieces, calls_of, source_pieces, sources_pieces, plain_sources, fallback_calls, job_calls, IsCallAs, IsSource, AreSources, AreStages, IsFallback, IsSpelled, IsJob}
-use Rattle.job_language.specs.Shapes.{call_in, calls_in, all_placed, StandsIn, StandIn, AreCallsIn, one_if_source, sources_in, is_fallback, ends_in_fallback, first_name}
-use Rattle.job_language.specs.Causes.{Scope, first_cause, when, version_cause, name_causes, sources_cause, causes_of}
+use Rattle.job_language.specs.Grammar.{Source, Sources, plain, concat, two, more, Job, Piece, call, close, comma, piece_words, job_pieces, calls_of, source_pieces, sources_pieces, plain_sources, fallback_calls, job_calls, IsSource, AreSources, AreStages, IsFallback, IsSpelled, IsJob}
+use Rattle.job_language.specs.Shapes.{call_in, calls_in, all_placed, StandsIn, StandIn, AreCallsIn, one_if_source, sources_in, begins_with_column, has_one_column, first_name}
+use Rattle.job_language.specs.Causes.{Scope, first_cause, when, has_later_call, version_cause, name_causes, sources_cause, is_column, is_one_column, goes_over_rows, causes_of}
 use Rattle.job_language.proofs.PieceLemmas.{calls_append}
 use Rattle.job_language.proofs.CauseLemmas.{first_append, first_stays}
 use Rattle.job_language.proofs.ShapeLemmas.{one_spelled, calls_job}
-use Rattle.std.specs.Prelude.{◌&&◌, nat_lt}
-use Rattle.std.specs.Option.{is_some}
+use Rattle.std.specs.Prelude.{◌&&◌, ◌||◌, nat_eq, nat_lt}
 use Rattle.std.proofs.lemmas.Grind.{common_steps}
 
 stands_at : (ws : List Word) (cs : List written.WrittenCall) (i : ℕ) (d : written.WrittenCall) → i < length cs → StandIn ws cs → StandsIn ws (get_or cs i d)
@@ -93,30 +91,40 @@ few n h = grind (arith, common_steps)
 many : (n : ℕ) → 8 < n → when (nat_lt 8 n) TooLong ≡ Some TooLong
 many n h = grind (arith, common_steps)
 
--- the fallback is the last call, if there is one
-ends_append : (xs : List Call) (y : Call) (ys : List Call) → ends_in_fallback (xs ++ y ∷ ys) ≡ ends_in_fallback (y ∷ ys)
-ends_append (x ∷ w ∷ xs) y ys = ends_append (w ∷ xs) y ys
-ends_append p y ys = refl
-
-ends_tail : (c : Call) (o : Option Call) → IsCallAs role.Terminal c → IsFallback o → ends_in_fallback (c ∷ fallback_calls o) ≡ is_some o
-ends_tail c None h k = ap is_fallback h.role
-ends_tail c (Some f) h k = ap is_fallback k.role
-
-ends_job : (ws : List Word) (j : Job) → IsSpelled ws j → ends_in_fallback (job_calls j) ≡ is_some j.fallback
-ends_job ws j h =
-    ap ends_in_fallback (sym (append_assoc (plain_sources j.source) j.stages (j.terminal ∷ fallback_calls j.fallback)))
-    ∙ ends_append (plain_sources j.source ++ j.stages) j.terminal (fallback_calls j.fallback)
-    ∙ ends_tail j.terminal j.fallback h.terminal h.fallback
-
-pub last_call : (ws : List Word) (cs : List written.WrittenCall) (n : ℕ) (d : written.WrittenCall) → suc n ≡ length cs → is_fallback (role_of (get_or cs n d).operation) ≡ ends_in_fallback (calls_in ws cs)
-last_call ws (c ∷ []) zero d h = refl
-last_call ws (c ∷ e ∷ cs) (suc n) d h = last_call ws (e ∷ cs) n d (omega arith)
-last_call ws x n d h = absurd (omega arith)
-
 pub version_is : (s : Scope) (ws : List Word) (cs : List written.WrittenCall) (j : Job) → AreCallsIn ws (all_placed ws cs) → IsJob ws j
-    → when (ends_in_fallback (calls_in ws cs) && nat_lt s.version 2) Syntax ≡ version_cause s j
-version_is s ws cs j a h =
-    ap (λ b. when (b && nat_lt s.version 2) Syntax) (ap ends_in_fallback (calls_of_job ws cs j a h) ∙ ends_job ws j h.spelled)
+    → when (has_later_call s.version (calls_in ws cs)) Syntax ≡ version_cause s j
+version_is s ws cs j a h = ap (λ v. when (has_later_call s.version v) Syntax) (calls_of_job ws cs j a h)
+
+-- the calls from a place on
+pub later_here : (ws : List Word) (version : ℕ) (cs : List written.WrittenCall) (i : ℕ) (c : written.WrittenCall) → i < length cs → c ≡ get_or cs i c
+    → nat_lt version (version_of_operation c.operation) ≡ true → has_later_call version (calls_in ws (drop i cs)) ≡ true
+later_here ws version cs i c lt is later =
+    ap (λ v. has_later_call version (calls_in ws v)) (drop_more cs i c lt ∙ ap (λ d. d ∷ drop (i + 1) cs) (sym is))
+    ∙ ap (λ b. b || has_later_call version (calls_in ws (drop (i + 1) cs))) later
+
+pub later_more : (ws : List Word) (version : ℕ) (cs : List written.WrittenCall) (i : ℕ) (c : written.WrittenCall) → i < length cs → c ≡ get_or cs i c
+    → nat_lt version (version_of_operation c.operation) ≡ false → has_later_call version (calls_in ws (drop i cs)) ≡ has_later_call version (calls_in ws (drop (i + 1) cs))
+later_more ws version cs i c lt is early =
+    ap (λ v. has_later_call version (calls_in ws v)) (drop_more cs i c lt ∙ ap (λ d. d ∷ drop (i + 1) cs) (sym is))
+    ∙ ap (λ b. b || has_later_call version (calls_in ws (drop (i + 1) cs))) early
+
+pub none_later : (ws : List Word) (version : ℕ) (cs : List written.WrittenCall) (i : ℕ) → length cs ≤ i → has_later_call version (calls_in ws (drop i cs)) ≡ false
+none_later ws version cs i far = ap (λ v. has_later_call version (calls_in ws v)) (drop_all i cs far)
+
+-- the items are rows, if the one source is a column
+more_sources : (n : ℕ) (b : Bool) → false ≡ nat_eq (suc (suc n)) 1 && b
+more_sources n b = grind (arith, common_steps)
+
+over_one : (xs ys : List Call) → is_one_column xs ≡ nat_eq (length xs) 1 && begins_with_column (xs ++ ys)
+over_one [] ys = refl
+over_one (c ∷ []) ys = refl
+over_one (c ∷ d ∷ xs) ys = more_sources (length xs) (is_column c.operation)
+
+pub over_rows : (ws : List Word) (cs : List written.WrittenCall) (j : Job) → AreCallsIn ws (all_placed ws cs) → IsJob ws j → has_one_column (calls_in ws cs) ≡ goes_over_rows j
+over_rows ws cs j a h =
+    ap has_one_column (calls_of_job ws cs j a h)
+    ∙ ap (λ n. nat_eq n 1 && begins_with_column (job_calls j)) (sources_of_job ws j h.spelled)
+    ∙ sym (over_one (plain_sources j.source) (j.stages ++ j.terminal ∷ fallback_calls j.fallback))
 
 -- the causes of a job that come before the causes of its calls
 pub by_version : (s : Scope) (j : Job) (e : Cause) → version_cause s j ≡ Some e → first_cause (causes_of s j) ≡ Some e

@@ -12,11 +12,14 @@ pub mod FileLemmas
 pub mod JobCauseLemmas
 pub mod JobReaderLemmas
 pub mod LastParts
+pub mod LaterVersions
+pub mod LineKinds
 pub mod Names
 pub mod OneFile
 pub mod OneVerdict
 pub mod PieceLemmas
 pub mod PieceReads
+pub mod PlacelessLemmas
 pub mod ReferenceLemmas
 pub mod ShapeLemmas
 pub mod Splits

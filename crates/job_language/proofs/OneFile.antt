@@ -3,7 +3,7 @@ use Rattle.std.proofs.Common.{◌≡◌, ℕ, List, [], ◌∷◌, ◌++◌, Res
 use Rattle.stream_tokens.specs.declared.job_text.JobText.{JobText}
 use Rattle.stream_tokens.specs.declared.job_text.TextFault.{TextFault}
 use Rattle.stream_tokens.specs.declared.job_text.TextFault.TheVariants as text
-use Rattle.columns.specs.Table.{NamedColumn}
+use Rattle.tables.specs.Table.{NamedColumn}
 use Rattle.job_language.specs.declared.fault.Cause.{Cause}
 use Rattle.job_language.specs.declared.fault.JobFault.{JobFault}
 use Rattle.job_language.specs.Files.{AreJobsLeft, AreJobsRead, IsNext, fault_at, scope_below}

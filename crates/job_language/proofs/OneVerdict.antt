@@ -24,26 +24,26 @@ use Rattle.job_language.specs.Rows.{AbstractCall, Argument, source}
 use Rattle.job_language.specs.Table.{role_of}
 use Rattle.job_language.specs.Grammar.{Job, IsJob, IsNoJob, pieces_words, job_pieces}
 use Rattle.job_language.specs.Jobs.{AbstractJob, AbstractTerminal}
-use Rattle.job_language.specs.Causes.{Scope, first_cause, stage_cause, early_causes, numbers_of}
+use Rattle.job_language.specs.Causes.{Scope, first_cause, stage_cause, early_causes, goes_over_rows, numbers_of}
 use Rattle.job_language.specs.Operators.{is_add_exact, spelled_op}
-use Rattle.job_language.specs.Arguments.{PlacedCall, IsOutcome, lambda_answer, IsLambdaRead, IsOperatorRead, IsReadBy, IsArgumentRead, last_param, last_part, argument_text}
-use Rattle.job_language.specs.Verdicts.{BegunJob, call_answer, added, below_terminal, finished_by, IsNextCall, job_named, placed_calls, IsReadAfter, IsReadInTurn, AreRead, IsJobRead, IsRead, IsInside}
+use Rattle.job_language.specs.Arguments.{PlacedCall, IsOutcome, lambda_answer, reads_cells, IsLambdaRead, IsOperatorRead, IsReadBy, IsArgumentRead, last_param, last_part, argument_text}
+use Rattle.job_language.specs.Verdicts.{BegunJob, call_answer, added, below_terminal, finished_by, IsNextCall, job_named, placed_calls, IsReadAfter, IsReadInTurn, AreRead, IsJobRead, IsRead, IsInside, scope_over, table_of}
 use Rattle.job_language.specs.Verdicts as verdict
 use Rattle.job_language.specs.Parts.{causes_before}
 use Rattle.job_language.proofs.ShapeLemmas.{one_spelled}
 
-to_outcome : (text : List ℕ) (w : Want) (o : Result AbstractLambda ReadFault) → IsOutcome text w o → Outcome text w o
-to_outcome text w (Ok l) j = judged j
-to_outcome text w (Err (fault.Syntax at)) h = outside at h refl
-to_outcome text w (Err fault.TooDeep) (inl m) = many m refl
-to_outcome text w (Err fault.TooDeep) (inr j) = judged j
-to_outcome text w (Err fault.LiteralTooLarge) j = judged j
-to_outcome text w (Err fault.UnknownName) j = judged j
-to_outcome text w (Err fault.WrongType) j = judged j
-to_outcome text w (Err fault.NoMemory) h = absurd h
+to_outcome : (cells : Bool) (text : List ℕ) (w : Want) (o : Result AbstractLambda ReadFault) → IsOutcome cells text w o → Outcome cells text w o
+to_outcome cells text w (Ok l) j = judged j
+to_outcome cells text w (Err (fault.Syntax at)) h = outside at h refl
+to_outcome cells text w (Err fault.TooDeep) (inl m) = many m refl
+to_outcome cells text w (Err fault.TooDeep) (inr j) = judged j
+to_outcome cells text w (Err fault.LiteralTooLarge) j = judged j
+to_outcome cells text w (Err fault.UnknownName) j = judged j
+to_outcome cells text w (Err fault.WrongType) j = judged j
+to_outcome cells text w (Err fault.NoMemory) h = absurd h
 
 one_lambda : (s : Scope) (text : List ℕ) (w : Want) (r q : Result Argument Cause) → IsLambdaRead s text w r → IsLambdaRead s text w q → r ≡ q
-one_lambda s text w r q h k = sym h.2 ∙ ap (lambda_answer s) (one_outcome text w h.0 k.0 (to_outcome text w h.0 h.1) (to_outcome text w k.0 k.1)) ∙ k.2
+one_lambda s text w r q h k = sym h.2 ∙ ap (lambda_answer s) (one_outcome (reads_cells s) text w h.0 k.0 (to_outcome (reads_cells s) text w h.0 h.1) (to_outcome (reads_cells s) text w k.0 k.1)) ∙ k.2
 
 one_operator : (b : Bool) (o : Option (Option Op)) (s : Scope) (text : List ℕ) (r q : Result Argument Cause) → IsOperatorRead b o s text r → IsOperatorRead b o s text q → r ≡ q
 one_operator false None s text r q h k = one_lambda s text want.Pair r q h k
@@ -85,7 +85,7 @@ one_rest s t j (c ∷ cs) r q (inr (g, a, x)) (inr (h, b, y)) =
 
 one_job_read : (o : Option Cause) (s : Scope) (t : TokenizedText) (j : Job) (r q : Result AbstractJob Cause) → IsJobRead o s t j r → IsJobRead o s t j q → r ≡ q
 one_job_read (Some e) s t j r q h k = sym h ∙ k
-one_job_read None s t j r q h k = one_rest s t (job_named j.name) (placed_calls j) r q h k
+one_job_read None s t j r q h k = one_rest (scope_over s (goes_over_rows j)) t (job_named j.name) (placed_calls j) r q h k
 
 abbrev text_of : List ℕ → List Token → TokenizedText
 text_of text ts = record { bytes = text; tokens = ts }
@@ -114,20 +114,20 @@ same_name : (j : BegunJob) (g : AbstractCall) → (added j g).name ≡ j.name
 same_name j (source s) = refl
 same_name j x = refl
 
-name_finished : (j : BegunJob) (k : AbstractJob) (d : Option AbstractTerminal) → finished_by j d ≡ Ok k → k.name ≡ j.name
-name_finished j k None h = absurd cc
-name_finished j k (Some d) h =
-    let same : record { name = j.name; sources = j.sources; stages = j.stages; terminal = d; on_fault = j.on_fault } ≡ k = cc in
+name_finished : (s : Scope) (j : BegunJob) (k : AbstractJob) (d : Option AbstractTerminal) → finished_by s j d ≡ Ok k → k.name ≡ j.name
+name_finished s j k None h = absurd cc
+name_finished s j k (Some d) h =
+    let same : record { name = j.name; sources = j.sources; stages = j.stages; terminal = d; on_fault = j.on_fault; table = table_of s } ≡ k = cc in
     ap (λ (v : AbstractJob). v.name) (sym same)
 
 name_kept : (s : Scope) (t : TokenizedText) (j : BegunJob) (k : AbstractJob) (cs : List PlacedCall) → AreRead s t j cs (Ok k) → k.name ≡ j.name
-name_kept s t j k [] h = name_finished j k j.terminal h
+name_kept s t j k [] h = name_finished s j k j.terminal h
 name_kept s t j k (c ∷ cs) (inl (e, a, x)) = absurd cc
 name_kept s t j k (c ∷ cs) (inr (g, a, x)) = name_kept s t (added j g) k cs x ∙ same_name j g
 
 name_read : (o : Option Cause) (s : Scope) (t : TokenizedText) (j : Job) (k : AbstractJob) → IsJobRead o s t j (Ok k) → k.name ≡ j.name
 name_read (Some e) s t j k h = absurd cc
-name_read None s t j k h = name_kept s t (job_named j.name) k (placed_calls j) h
+name_read None s t j k h = name_kept (scope_over s (goes_over_rows j)) t (job_named j.name) k (placed_calls j) h
 
 token_name : (text w : List ℕ) (k : TokenKind) (from to : ℕ) → k ≡ Name → IsFirstToken (drop from text) k (to - from) → token_text text (record { kind = k; from = from; to = to }) ≡ w → IsName w
 token_name text w Name from to e (inl l) same = subst IsName same l.form

@@ -8,6 +8,7 @@ use Rattle.stream_tokens.specs.CutTexts.{TokenizedText}
 use Rattle.lambda_expr.specs.Words.{Word}
 use Rattle.lambda_values.specs.Lambda.{AbstractLambda, long, boolean, stream as inner_stream, pair}
 use Rattle.lambda_expr.specs.Refusals.{wanted, expression_verdict, stream_verdict, lambda_of, streamed, verdict, Judged}
+use Rattle.lambda_values.specs.Cells.{cells_of}
 use Rattle.lambda_values.specs.References.{names_of}
 use Rattle.lambda_expr.specs.Checks.{depth, fit, literals, names_known}
 use Rattle.lambda_expr.specs.Grammar.{Shape}
@@ -42,7 +43,7 @@ use Rattle.job_language.specs.Table.{row, params_of, allowed, param_at, param_of
 use Rattle.job_language.specs.Calls.{Call, FitFrom, IsCall}
 use Rattle.job_language.specs.Causes.{Scope, first_cause, when, count_of, number_cause, number_causes, number_in, as_list, numbers_of, is_negative, values_cause, early_causes}
 use Rattle.job_language.specs.Operators.{is_add_exact, spelled_op}
-use Rattle.job_language.specs.Arguments.{PlacedCall, last_part, last_param, text_answer, column_answer, name_answer, result_answer, listed, pair_argument, argument_of, after_references, reference_cause, reference_causes, lambda_answer, IsLambdaRead, IsOperatorRead, IsReadBy, IsArgumentRead, argument_text}
+use Rattle.job_language.specs.Arguments.{PlacedCall, last_part, last_param, text_answer, column_answer, name_answer, result_answer, listed, pair_argument, argument_of, after_names, cell_cause, cell_causes, reference_cause, reference_causes, named_causes, lambda_answer, reads_cells, IsLambdaRead, IsOperatorRead, IsReadBy, IsArgumentRead, argument_text}
 use Rattle.job_language.specs.Verdicts.{IsReadAfter, IsCallRead}
 
 -- ---- causes that are no syntax fault
@@ -94,6 +95,15 @@ no_references : (s : Scope) (ws : List (List ℕ)) → first_cause (reference_ca
 no_references s [] e = absurd cc
 no_references s (w ∷ ws) e = first_not (reference_cause _) (reference_causes s ws) (no_reference _) (no_references s ws) e
 
+no_cell : (rows : Bool) (o : Option (List ℤ)) → cell_cause rows o ≡ Some cause.Syntax → ⊥
+no_cell false o e = absurd cc
+no_cell true None e = absurd cc
+no_cell true (Some cells) e = absurd cc
+
+no_cells : (s : Scope) (ws : List (List ℕ)) → first_cause (cell_causes s ws) ≡ Some cause.Syntax → ⊥
+no_cells s [] e = absurd cc
+no_cells s (w ∷ ws) e = first_not (cell_cause s.rows _) (cell_causes s ws) (no_cell s.rows _) (no_cells s ws) e
+
 no_listed : (o : Option Op) → listed o ≡ Err cause.Syntax → ⊥
 no_listed None e = absurd cc
 no_listed (Some f) e = absurd cc
@@ -106,13 +116,13 @@ no_argument : (l : AbstractLambda) → argument_of l ≡ Err cause.Syntax → �
 no_argument (pair f) e = no_pair f e
 no_argument l e = absurd cc
 
-no_after : (c : Option Cause) (l : AbstractLambda) → (c ≡ Some cause.Syntax → ⊥) → after_references c l ≡ Err cause.Syntax → ⊥
+no_after : (c : Option Cause) (l : AbstractLambda) → (c ≡ Some cause.Syntax → ⊥) → after_names c l ≡ Err cause.Syntax → ⊥
 no_after None l h e = no_argument l e
 no_after (Some d) l h e = let same : d ≡ cause.Syntax = cc in h (ap Some same)
 
 no_lambda : (s : Scope) (o : Result AbstractLambda ReadFault) → lambda_answer s o ≡ Err cause.Syntax → ⊥
 no_lambda s (Err f) e = absurd cc
-no_lambda s (Ok l) e = no_after (first_cause (reference_causes s (names_of l))) l (no_references s (names_of l)) e
+no_lambda s (Ok l) e = no_after (first_cause (named_causes s l)) l (first_both (reference_causes s (names_of l)) (cell_causes s (cells_of l)) (no_references s (names_of l)) (no_cells s (cells_of l))) e
 
 no_operator : (b : Bool) (o : Option (Option Op)) (s : Scope) (text : List ℕ) → IsOperatorRead b o s text (Err cause.Syntax) → ⊥
 no_operator true o s text e = absurd cc
@@ -256,8 +266,8 @@ by_body want.Pair ws h (expression x) l is e = by_expression want.Pair h x l e
 by_body want.Stream ws h (operands s es) l is e = by_operands h s es l e
 by_body w ws h b l is e = absurd is
 
-judged_want : (text : List ℕ) (w : Want) (l : AbstractLambda) → Judged text w (Ok l) → IsOfWant w l
-judged_want text w l j = by_body w j.spelled.lambda.rest (names_in text j.spelled.tokens) j.body l j.spelled.lambda.stands j.gives
+judged_want : (cells : Bool) (text : List ℕ) (w : Want) (l : AbstractLambda) → Judged cells text w (Ok l) → IsOfWant w l
+judged_want cells text w l j = by_body w j.spelled.lambda.rest (names_in text j.spelled.tokens) j.body l j.spelled.lambda.stands j.gives
 
 -- the last part of a row of one kind of lambda
 abbrev IsRead : Want → Argument → Type 0
@@ -283,13 +293,13 @@ of_lambda want.Stream (inner_stream g) a is h = subst (IsRead want.Stream) (ok_s
 of_lambda want.Pair (pair f) a is h = of_pair f a h
 of_lambda w l a is h = absurd is
 
-of_references : (w : Want) (c : Option Cause) (l : AbstractLambda) (a : Argument) → IsOfWant w l → after_references c l ≡ Ok a → IsRead w a
+of_references : (w : Want) (c : Option Cause) (l : AbstractLambda) (a : Argument) → IsOfWant w l → after_names c l ≡ Ok a → IsRead w a
 of_references w None l a is h = of_lambda w l a is h
 of_references w (Some d) l a is h = absurd cc
 
 lambda_is : (s : Scope) (text : List ℕ) (w : Want) (a : Argument) → IsLambdaRead s text w (Ok a) → IsRead w a
 lambda_is s text w a (Err f, out, e) = absurd cc
-lambda_is s text w a (Ok l, out, e) = of_references w (first_cause (reference_causes s (names_of l))) l a (judged_want text w l out) e
+lambda_is s text w a (Ok l, out, e) = of_references w (first_cause (named_causes s l)) l a (judged_want (reads_cells s) text w l out) e
 
 operator_is : (b : Bool) (o : Option (Option Op)) (s : Scope) (text : List ℕ) (a : Argument) → IsOperatorRead b o s text (Ok a) → IsRead want.Pair a
 operator_is true o s text a e = subst (IsRead want.Pair) (ok_same exact a e) tt

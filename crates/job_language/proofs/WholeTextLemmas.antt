@@ -9,8 +9,8 @@ use Rattle.job_language.specs.declared.fault.Cause.TheVariants.{NoMemory, Syntax
 use Rattle.job_language.specs.Grammar.{Job, IsJob, IsNoJob}
 use Rattle.job_language.specs.declared.job.Job as code
 use Rattle.job_language.specs.Jobs.{AbstractJob, job_of}
-use Rattle.job_language.specs.Causes.{Scope}
-use Rattle.job_language.specs.Verdicts.{IsJobRead, IsRead, outside, inside, AreRead, job_named, placed_calls}
+use Rattle.job_language.specs.Causes.{Scope, goes_over_rows}
+use Rattle.job_language.specs.Verdicts.{IsJobRead, IsRead, outside, inside, AreRead, job_named, placed_calls, scope_over}
 use Rattle.job_language.specs.declared.piece.WrittenCall as written
 use Rattle.job_language.specs.Shapes.{all_placed, AreCallsIn}
 use Rattle.job_language.proofs.ShapeLemmas.{one_spelled}
@@ -31,5 +31,7 @@ answers_more P Q (Ok j) f h = f (Ok (job_of j)) h
 answers_more P Q (Err e) f h = λ other. f (Err e) (h other)
 
 -- a job is read by its calls, if it has no cause before them
-pub in_calls : (s : Scope) (t : TokenizedText) (ws : List Word) (cs : List written.WrittenCall) (j : Job) (r : Result AbstractJob Cause) → AreCallsIn ws (all_placed ws cs) → IsJob ws j → causes_before s j ≡ None → AreRead s t (job_named j.name) (all_placed ws cs) r → IsJobRead (causes_before s j) s t j r
-in_calls s t ws cs j r a h none read = subst (λ f. IsJobRead f s t j r) (sym none) (subst (λ v. AreRead s t (job_named j.name) v r) (a.calls ∙ ap placed_calls (one_spelled ws a.job j a.is.spelled h.spelled)) read)
+pub in_calls : (s : Scope) (t : TokenizedText) (ws : List Word) (cs : List written.WrittenCall) (j : Job) (r : Result AbstractJob Cause) → AreCallsIn ws (all_placed ws cs) → IsJob ws j → causes_before s j ≡ None → AreRead (scope_over s (goes_over_rows j)) t (job_named j.name) (all_placed ws cs) r → IsJobRead (causes_before s j) s t j r
+in_calls s t ws cs j r a h none read =
+    subst (λ f. IsJobRead f s t j r) (sym none)
+    (subst (λ v. AreRead (scope_over s (goes_over_rows j)) t (job_named j.name) v r) (a.calls ∙ ap placed_calls (one_spelled ws a.job j a.is.spelled h.spelled)) read)

@@ -1,12 +1,13 @@
 -- Meaning: what the last part of a call is read as, if it is no number.
-use Rattle.std.specs.Prelude.{◌≡◌, ℕ, suc, ◌+◌, ℤ, Bool, true, false, List, [], ◌∷◌, length, get_or, Option, Some, None}
-use Rattle.std.specs.Prelude.{Result, Ok, Err}
+use Rattle.std.specs.Prelude.{◌≡◌, ℕ, suc, ◌+◌, ℤ, Bool, true, false, List, [], ◌∷◌, ◌++◌, length, get_or, nat_le, Option, Some}
+use Rattle.std.specs.Prelude.{None, Result, Ok, Err}
 use Rattle.stream_tokens.specs.declared.token.Token.{Token}
 use Rattle.stream_tokens.specs.declared.token.TokenKind.TheVariants.{Bad}
 use Rattle.stream_tokens.specs.CutTexts.{TokenizedText, between}
 use Rattle.lambda_expr.specs.Words.{Word}
 use Rattle.lambda_values.specs.Lambda.{AbstractLambda, long, boolean, stream as inner_stream, pair}
-use Rattle.lambda_expr.specs.Refusals.{Judged, IsRefused}
+use Rattle.lambda_expr.specs.Refusals.{Judged, IsRefusedWithin}
+use Rattle.lambda_values.specs.Cells.{cells_of}
 use Rattle.lambda_values.specs.References.{names_of}
 use Rattle.lambda_expr.specs.declared.fault.ReadFault.{ReadFault}
 use Rattle.lambda_expr.specs.declared.fault.ReadFault.TheVariants as fault
@@ -14,7 +15,7 @@ use Rattle.lambda_values.specs.declared.lambda.PairForm.{PairForm}
 use Rattle.lambda_values.specs.declared.lambda.PairForm.TheVariants as form
 use Rattle.lambda_expr.specs.declared.want.Want.{Want}
 use Rattle.lambda_expr.specs.declared.want.Want.TheVariants as want
-use Rattle.columns.specs.Table.{cells_named}
+use Rattle.tables.specs.Table.{cells_named}
 use Rattle.reduce_ops.specs.declared.op.Op.{Op}
 use Rattle.reduce_ops.specs.declared.op.Op.TheVariants as op
 use Rattle.job_language.specs.declared.fault.Cause.{Cause}
@@ -82,11 +83,11 @@ abbrev pub name_answer : Scope → Option (List ℕ) → Result Argument Cause
 name_answer scope (Some w) = result_answer w (given scope.jobs w)
 name_answer scope None = Ok nothing
 
--- the lambda that a text is, or what it is refused for
-abbrev pub IsOutcome : List ℕ → Want → Result AbstractLambda ReadFault → Type 0
-IsOutcome text w (Ok l) = Judged text w (Ok l)
-IsOutcome text w (Err fault.NoMemory) = ⊥
-IsOutcome text w (Err f) = IsRefused text w f
+-- what a text gives, with cells and rows or without them: the lambda that it is, or what it is refused for
+abbrev pub IsOutcome : Bool → List ℕ → Want → Result AbstractLambda ReadFault → Type 0
+IsOutcome cells text w (Ok l) = Judged cells text w (Ok l)
+IsOutcome cells text w (Err fault.NoMemory) = ⊥
+IsOutcome cells text w (Err f) = IsRefusedWithin cells text w f
 
 -- a reference names an earlier job that gives a number
 abbrev pub reference_cause : Option Gives → Option Cause
@@ -97,6 +98,16 @@ reference_cause (Some g) = Some cause.NotANumber
 abbrev pub reference_causes : Scope → List (List ℕ) → List (Option Cause)
 reference_causes scope [] = []
 reference_causes scope (w ∷ ws) = reference_cause (given scope.jobs w) ∷ reference_causes scope ws
+
+-- a cell stands in a row, and in a column
+abbrev pub cell_cause : Bool → Option (List ℤ) → Option Cause
+cell_cause false cells = Some cause.NoRow
+cell_cause true None = Some cause.UnknownColumn
+cell_cause true (Some cells) = None
+
+abbrev pub cell_causes : Scope → List (List ℕ) → List (Option Cause)
+cell_causes scope [] = []
+cell_causes scope (w ∷ ws) = cell_cause scope.rows (cells_named w scope.columns) ∷ cell_causes scope ws
 
 -- an operator has to be in the table
 abbrev pub listed : Option Op → Result Argument Cause
@@ -123,16 +134,25 @@ argument_of (boolean p) = Ok (test p)
 argument_of (inner_stream g) = Ok (stream g)
 argument_of (pair f) = pair_argument f
 
-abbrev pub after_references : Option Cause → AbstractLambda → Result Argument Cause
-after_references None l = argument_of l
-after_references (Some e) l = Err e
+-- the causes of the names in a lambda: of its references, then of its cells
+abbrev pub named_causes : Scope → AbstractLambda → List (Option Cause)
+named_causes scope l = reference_causes scope (names_of l) ++ cell_causes scope (cells_of l)
+
+abbrev pub after_names : Option Cause → AbstractLambda → Result Argument Cause
+after_names None l = argument_of l
+after_names (Some e) l = Err e
 
 abbrev pub lambda_answer : Scope → Result AbstractLambda ReadFault → Result Argument Cause
 lambda_answer scope (Err f) = Err (cause.Expr f)
-lambda_answer scope (Ok l) = after_references (first_cause (reference_causes scope (names_of l))) l
+lambda_answer scope (Ok l) = after_names (first_cause (named_causes scope l)) l
+
+-- whether lambdas may have cells and rows
+abbrev pub reads_cells : Scope → Bool
+reads_cells scope = nat_le 3 scope.version
 
 abbrev pub IsLambdaRead : Scope → List ℕ → Want → Result Argument Cause → Type 0
-IsLambdaRead scope text w r = (o : Result AbstractLambda ReadFault) × IsOutcome text w o × (lambda_answer scope o ≡ r)
+IsLambdaRead scope text w r =
+    (o : Result AbstractLambda ReadFault) × IsOutcome (reads_cells scope) text w o × (lambda_answer scope o ≡ r)
 
 -- an operator is a name, a method, or a lambda of two parameters; one method is the addition of exact sums
 abbrev pub IsOperatorRead : Bool → Option (Option Op) → Scope → List ℕ → Result Argument Cause → Type 0

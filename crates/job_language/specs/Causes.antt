@@ -1,13 +1,14 @@
 -- Meaning: what a part of a job is refused for: the causes in order of writing, and the first that there is.
-use Rattle.std.specs.Prelude.{ℕ, suc, ℤ, pos, int_lt, Bool, true, false, ◌||◌, ◌&&◌, nat_eq, nat_lt, nat_le}
+use Rattle.std.specs.Prelude.{ℕ, suc, ℤ, pos, int_lt, Bool, true, false, ◌||◌, nat_eq, nat_lt, nat_le}
 use Rattle.std.specs.Prelude.{if◌then◌else◌, List, [], ◌∷◌, ◌++◌, length, take, drop, ◌-◌, Option, Some, None}
 use Rattle.std.specs.Option.{is_none, is_some}
 use Rattle.std.specs.Cmp.Lexicographic.{pointwise}
 use Rattle.lambda_expr.specs.NumberWords.{number_read}
 use Rattle.lambda_expr.specs.Words.{Word}
 use Rattle.lambda_expr.specs.declared.fault.ReadFault.TheVariants.{LiteralTooLarge}
-use Rattle.columns.specs.Table.{NamedColumn}
+use Rattle.tables.specs.Table.{NamedColumn}
 use Rattle.job_language.specs.declared.operation.Operation.{Operation}
+use Rattle.job_language.specs.declared.operation.Operation.TheVariants as operation
 use Rattle.job_language.specs.declared.operation.Param.{Param}
 use Rattle.job_language.specs.declared.operation.Param.TheVariants as param
 use Rattle.job_language.specs.declared.operation.Params.{Params}
@@ -17,18 +18,19 @@ use Rattle.job_language.specs.declared.operation.Role.TheVariants as role
 use Rattle.job_language.specs.declared.terminal.Gives.{Gives}
 use Rattle.job_language.specs.declared.fault.Cause.{Cause}
 use Rattle.job_language.specs.declared.fault.Cause.TheVariants as cause
-use Rattle.job_language.specs.Table.{param_of, params_of}
+use Rattle.job_language.specs.Table.{param_of, params_of, version_of_operation}
 use Rattle.job_language.specs.Calls.{Call}
-use Rattle.job_language.specs.Grammar.{Job, plain_sources}
+use Rattle.job_language.specs.Grammar.{Job, job_calls, plain_sources}
 
 -- an earlier job: its name, and what its terminal gives
 pub record Earlier : Type 0 where
   pub name : List ℕ
   pub gives : Gives
 
--- what a job may name, and the version of the language that it is written in
+-- the version of the language that a job is written in, whether its items are rows of the columns, and what it may name
 pub record Scope : Type 0 where
   pub version : ℕ
+  pub rows : Bool
   pub jobs : List Earlier
   pub columns : List NamedColumn
 
@@ -46,9 +48,14 @@ abbrev pub when : Bool → Cause → Option Cause
 when true c = Some c
 when false c = None
 
--- a fallback stands in the grammar of version 2 alone
+-- whether one of these calls is of a later version than this
+abbrev pub has_later_call : ℕ → List Call → Bool
+has_later_call version [] = false
+has_later_call version (c ∷ cs) = nat_lt version (version_of_operation c.operation) || has_later_call version cs
+
+-- each call of a job is of its version or an earlier one
 abbrev pub version_cause : Scope → Job → Option Cause
-version_cause scope j = when (is_some j.fallback && nat_lt scope.version 2) cause.Syntax
+version_cause scope j = when (has_later_call scope.version (job_calls j)) cause.Syntax
 
 -- a name of at most 64 bytes, which no earlier job has
 abbrev pub name_causes : Scope → List ℕ → List (Option Cause)
@@ -116,6 +123,21 @@ stage_cause n r = None
 -- at most 8 plain sources; each source inside `concat` counts
 abbrev pub sources_cause : Job → Option Cause
 sources_cause j = when (nat_lt 8 (length (plain_sources j.source))) cause.TooLong
+
+-- helper: a call of `column`
+abbrev pub is_column : Operation → Bool
+is_column operation.Column = true
+is_column o = false
+
+-- helper: there is one call, of `column`
+abbrev pub is_one_column : List Call → Bool
+is_one_column [] = false
+is_one_column (c ∷ []) = is_column c.operation
+is_one_column (c ∷ d ∷ cs) = false
+
+-- whether the items of a job are rows: its source is one column
+abbrev pub goes_over_rows : Job → Bool
+goes_over_rows j = is_one_column (plain_sources j.source)
 
 -- the causes of a job that come before the causes of its calls
 abbrev pub causes_of : Scope → Job → List (Option Cause)

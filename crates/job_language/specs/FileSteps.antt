@@ -1,7 +1,7 @@
 -- Condition: what one more text of a file gives.
 use Rattle.std.specs.Prelude.{◌≡◌, ℕ, List, [], ◌∷◌, ◌++◌, Ok, Err}
 use Rattle.stream_tokens.specs.declared.job_text.JobText.{JobText}
-use Rattle.columns.specs.Table.{NamedColumn}
+use Rattle.tables.specs.Table.{NamedColumn}
 use Rattle.job_language.specs.declared.fault.JobFault.{JobFault}
 use Rattle.job_language.specs.Jobs.{AbstractJob}
 use Rattle.job_language.specs.Files.{IsNext}

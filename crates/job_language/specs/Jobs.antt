@@ -3,6 +3,8 @@ use Rattle.std.specs.Prelude.{ℕ, ℤ, List, [], ◌∷◌, Option}
 use Rattle.trace.specs.Stages.{AbstractStage, stage_of}
 use Rattle.slice_ops.specs.Slices.{AbstractSlice, slice_of}
 use Rattle.find_ops.specs.Finds.{Find, first, any_match, all_match, none_match, find_of}
+use Rattle.tables.specs.Table.{NamedColumn}
+use Rattle.lambda_values.specs.Earlier.{table_in}
 use Rattle.reduce_ops.specs.declared.op.Op.{Op}
 use Rattle.job_language.specs.declared.job.PlainSource.{PlainSource}
 use Rattle.job_language.specs.declared.job.PlainSource.TheVariants as source
@@ -54,14 +56,16 @@ given_by (find (all_match p)) = gives.Boolean
 given_by (find (none_match p)) = gives.Boolean
 given_by exact_sum = gives.Number
 
--- an abstract job: its name in bytes, its plain sources in order of writing, its stages, its terminal, and the number
--- of `onFault`, if there is one
+-- an abstract job: its name in bytes, its plain sources in order of writing, its stages, its terminal, the number of
+-- `onFault`, if there is one, and the columns whose rows the items are; none if the items are no rows, or if lambdas may
+-- have no cells
 pub record AbstractJob : Type 0 where
   pub name : List ℕ
   pub sources : List AbstractPlainSource
   pub stages : List AbstractJobStage
   pub terminal : AbstractTerminal
   pub on_fault : Option ℤ
+  pub table : List NamedColumn
 
 -- helper: the abstract source of a source of the program
 abbrev pub source_of : PlainSource → AbstractPlainSource
@@ -108,6 +112,7 @@ job_of j =
       stages = job_stages_of j.stages.items;
       terminal = terminal_of j.terminal;
       on_fault = j.on_fault;
+      table = table_in j.table;
     }
 
 -- helper: each of several jobs

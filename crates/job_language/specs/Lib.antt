@@ -7,6 +7,7 @@ pub mod Grammar
 pub mod Reading
 pub mod Shapes
 pub mod FaultCauses
+pub mod FaultTexts
 pub mod Causes
 pub mod Scopes
 pub mod Jobs
@@ -16,3 +17,4 @@ pub mod Verdicts
 pub mod Parts
 pub mod Files
 pub mod FileSteps
+pub mod Places

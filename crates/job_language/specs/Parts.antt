@@ -56,9 +56,9 @@ Answers f P (Ok a) = P (Ok (f a))
 Answers f P (Err e) = e ≢ NoMemory → P (Err e)
 
 -- the calls lead to what this job is after its last call, or to a refusal; out of memory may stand in its place
-abbrev pub Leads : {A : Type 0} → (Result AbstractJob Cause → Type 0) → BegunJob → Result A Cause → Type 0
-Leads P j (Ok a) = P (finished j)
-Leads P j (Err e) = e ≢ NoMemory → P (Err e)
+abbrev pub Leads : {A : Type 0} → (Result AbstractJob Cause → Type 0) → Scope → BegunJob → Result A Cause → Type 0
+Leads P s j (Ok a) = P (finished s j)
+Leads P s j (Err e) = e ≢ NoMemory → P (Err e)
 
 -- why a job is refused before its calls
 abbrev pub causes_before : Scope → Job → Option Cause

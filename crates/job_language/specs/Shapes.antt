@@ -1,6 +1,6 @@
 -- Condition: what the program keeps of a job that it has read.
 use Rattle.std.specs.Prelude.{◌≡◌, ℕ, ◌+◌, ◌<◌, ◌≤◌, Bool, true, false, List, [], ◌∷◌, ◌++◌, length, drop, reverse}
-use Rattle.std.specs.Prelude.{Option, Some, None, zero, suc, get_or}
+use Rattle.std.specs.Prelude.{◌&&◌, nat_eq, Option, Some, None, zero, suc, get_or}
 use Rattle.stream_tokens.specs.declared.symbol.Symbol.{Symbol}
 use Rattle.stream_tokens.specs.declared.symbol.Symbol.TheVariants as symbol
 use Rattle.lambda_expr.specs.Words.{Word, named, sign}
@@ -16,6 +16,7 @@ use Rattle.job_language.specs.declared.mode.Mode.TheVariants as mode
 use Rattle.job_language.specs.declared.shape.Reader as shape
 use Rattle.job_language.specs.Table.{operation_of, role_of}
 use Rattle.job_language.specs.Calls.{Call}
+use Rattle.job_language.specs.Causes.{is_column}
 use Rattle.job_language.specs.Splitting.{call_at, AreEnds}
 use Rattle.job_language.specs.Grammar.{Piece, call, begin_concat, owner, comma, close, dot, semicolon, piece_words}
 use Rattle.job_language.specs.Grammar.{pieces_words, Job, IsSpelled, IsJob}
@@ -177,15 +178,14 @@ abbrev pub sources_in : List Call → ℕ
 sources_in [] = 0
 sources_in (c ∷ cs) = one_if_source (role_of c.operation) + sources_in cs
 
--- whether the last of the calls is a fallback
-abbrev pub is_fallback : Role → Bool
-is_fallback role.Fallback = true
-is_fallback r = false
+-- whether the first of the calls is a column
+abbrev pub begins_with_column : List Call → Bool
+begins_with_column [] = false
+begins_with_column (c ∷ cs) = is_column c.operation
 
-abbrev pub ends_in_fallback : List Call → Bool
-ends_in_fallback [] = false
-ends_in_fallback (c ∷ []) = is_fallback (role_of c.operation)
-ends_in_fallback (c ∷ d ∷ cs) = ends_in_fallback (d ∷ cs)
+-- whether the one source among the calls is a column
+abbrev pub has_one_column : List Call → Bool
+has_one_column cs = nat_eq (sources_in cs) 1 && begins_with_column cs
 
 -- the name that the words begin with
 abbrev pub first_name : List Word → List ℕ

@@ -49,6 +49,7 @@ name_of op.Reduce = codes "reduce"
 name_of op.AnyMatch = codes "anyMatch"
 name_of op.AllMatch = codes "allMatch"
 name_of op.NoneMatch = codes "noneMatch"
+name_of op.SumExact = codes "sumExact"
 name_of op.OnFault = codes "onFault"
 
 -- all operations
@@ -56,7 +57,7 @@ abbrev pub operations : List Operation
 operations =
     op.Range ∷ op.RangeClosed ∷ op.Of ∷ op.Empty ∷ op.Column ∷ op.Result ∷ op.Concat ∷ op.Map ∷ op.Filter
     ∷ op.FlatMap ∷ op.Limit ∷ op.Skip ∷ op.TakeWhile ∷ op.DropWhile ∷ op.Prefix ∷ op.Sum ∷ op.Count ∷ op.Min ∷ op.Max
-    ∷ op.FindFirst ∷ op.ToArray ∷ op.Reduce ∷ op.AnyMatch ∷ op.AllMatch ∷ op.NoneMatch ∷ op.OnFault ∷ []
+    ∷ op.FindFirst ∷ op.ToArray ∷ op.Reduce ∷ op.AnyMatch ∷ op.AllMatch ∷ op.NoneMatch ∷ op.SumExact ∷ op.OnFault ∷ []
 
 -- the first of these operations with this name
 abbrev pub operation_among : List Operation → List ℕ → Option Operation
@@ -93,7 +94,38 @@ row op.Reduce = as_terminal (of_identity job.reduce job.reduce_from job.exact_su
 row op.AnyMatch = as_terminal (of_test (λ p. job.find (find.any_match p)))
 row op.AllMatch = as_terminal (of_test (λ p. job.find (find.all_match p)))
 row op.NoneMatch = as_terminal (of_test (λ p. job.find (find.none_match p)))
+row op.SumExact = as_terminal (of_nothing job.exact_sum)
 row op.OnFault = as_fallback (of_number (λ k. k))
+
+-- the first version of the language that has an operation
+abbrev pub version_of_operation : Operation → ℕ
+version_of_operation op.Range = 1
+version_of_operation op.RangeClosed = 1
+version_of_operation op.Of = 1
+version_of_operation op.Empty = 1
+version_of_operation op.Column = 1
+version_of_operation op.Result = 1
+version_of_operation op.Concat = 1
+version_of_operation op.Map = 1
+version_of_operation op.Filter = 1
+version_of_operation op.FlatMap = 1
+version_of_operation op.Limit = 1
+version_of_operation op.Skip = 1
+version_of_operation op.TakeWhile = 1
+version_of_operation op.DropWhile = 1
+version_of_operation op.Prefix = 1
+version_of_operation op.Sum = 1
+version_of_operation op.Count = 1
+version_of_operation op.Min = 1
+version_of_operation op.Max = 1
+version_of_operation op.FindFirst = 1
+version_of_operation op.ToArray = 1
+version_of_operation op.Reduce = 1
+version_of_operation op.AnyMatch = 1
+version_of_operation op.AllMatch = 1
+version_of_operation op.NoneMatch = 1
+version_of_operation op.OnFault = 2
+version_of_operation op.SumExact = 3
 
 -- where an operation stands in a job
 abbrev pub role_of : Operation → Role

@@ -1,10 +1,11 @@
 -- Meaning: what the text of a job is read as: the job, or the first cause for which it is refused.
 use Rattle.std.specs.Prelude.{◌≡◌, ℕ, suc, ◌+◌, ◌<◌, ◌≤◌, ℤ, ◌⊎◌, List, [], ◌∷◌, ◌++◌, length, Option, Some, None}
-use Rattle.std.specs.Prelude.{Result, Ok, Err}
+use Rattle.std.specs.Prelude.{Bool, ◌&&◌, if◌then◌else◌, Result, Ok, Err}
 use Rattle.stream_tokens.specs.declared.token.Token.{Token}
 use Rattle.stream_tokens.specs.Tokens.{AreTokensOf}
 use Rattle.stream_tokens.specs.CutTexts.{TokenizedText}
 use Rattle.lambda_expr.specs.Words.{words_of}
+use Rattle.tables.specs.Table.{NamedColumn}
 use Rattle.job_language.specs.declared.fault.Cause.{Cause}
 use Rattle.job_language.specs.declared.fault.Cause.TheVariants as cause
 use Rattle.job_language.specs.declared.operation.Operation.{Operation}
@@ -16,7 +17,8 @@ use Rattle.job_language.specs.Calls.{call_words}
 use Rattle.job_language.specs.Grammar.{Piece, call, piece_words, job_pieces, Job, IsJob, IsNoJob}
 use Rattle.job_language.specs.Jobs.{AbstractPlainSource, AbstractJobStage, AbstractTerminal, AbstractJob, given_by}
 use Rattle.job_language.specs.Causes.{Earlier, Scope, first_cause, stage_cause, early_causes, numbers_of, causes_of}
-use Rattle.job_language.specs.Arguments.{PlacedCall, IsArgumentRead}
+use Rattle.job_language.specs.Causes.{goes_over_rows}
+use Rattle.job_language.specs.Arguments.{PlacedCall, IsArgumentRead, reads_cells}
 
 -- a call whose numbers have no fault
 abbrev pub call_answer : Operation → List ℤ → Result Argument Cause → Result AbstractCall Cause
@@ -53,14 +55,26 @@ added j (stage g) = record j { stages = j.stages ++ g ∷ [] }
 added j (terminal d) = record j { terminal = Some d }
 added j (fallback z) = record j { on_fault = Some z }
 
--- the job after its last call; in the grammar none is without a terminal
-abbrev pub finished_by : BegunJob → Option AbstractTerminal → Result AbstractJob Cause
-finished_by j None = Err cause.Syntax
-finished_by j (Some d) =
-    Ok (record { name = j.name; sources = j.sources; stages = j.stages; terminal = d; on_fault = j.on_fault })
+-- the columns whose rows the items are, if they are rows and lambdas may have cells
+abbrev pub table_of : Scope → List NamedColumn
+table_of scope = if reads_cells scope && scope.rows then scope.columns else []
 
-abbrev pub finished : BegunJob → Result AbstractJob Cause
-finished j = finished_by j j.terminal
+-- the job after its last call; in the grammar none is without a terminal
+abbrev pub finished_by : Scope → BegunJob → Option AbstractTerminal → Result AbstractJob Cause
+finished_by scope j None = Err cause.Syntax
+finished_by scope j (Some d) =
+    Ok
+    (record {
+      name = j.name;
+      sources = j.sources;
+      stages = j.stages;
+      terminal = d;
+      on_fault = j.on_fault;
+      table = table_of scope;
+    })
+
+abbrev pub finished : Scope → BegunJob → Result AbstractJob Cause
+finished scope j = finished_by scope j j.terminal
 
 -- a terminal that gives numbers may have a number to give after a fault
 abbrev pub fallback_for : Gives → ℤ → Result AbstractCall Cause
@@ -89,7 +103,7 @@ IsNextCall j scope t c r =
 
 -- the calls that are left, in order of writing: the first that is refused gives the cause
 abbrev pub AreRead : Scope → TokenizedText → BegunJob → List PlacedCall → Result AbstractJob Cause → Type 0
-AreRead scope t j [] r = finished j ≡ r
+AreRead scope t j [] r = finished scope j ≡ r
 AreRead scope t j (c ∷ cs) r =
     ((e : Cause) × IsNextCall j scope t c (Err e) × (Err e ≡ r))
     ⊎ ((g : AbstractCall) × IsNextCall j scope t c (Ok g) × AreRead scope t (added j g) cs r)
@@ -108,10 +122,14 @@ placed n (p ∷ ps) = placed (n + length (piece_words p)) ps
 abbrev pub placed_calls : Job → List PlacedCall
 placed_calls j = placed 2 (job_pieces j)
 
+-- the scope of a job, where it is known whether its items are rows
+abbrev pub scope_over : Scope → Bool → Scope
+scope_over scope rows = record scope { rows = rows }
+
 -- a job in the grammar is refused for its version, for its name, for too many plain sources, for a call
 abbrev pub IsJobRead : Option Cause → Scope → TokenizedText → Job → Result AbstractJob Cause → Type 0
 IsJobRead (Some e) scope t j r = Err e ≡ r
-IsJobRead None scope t j r = AreRead scope t (job_named j.name) (placed_calls j) r
+IsJobRead None scope t j r = AreRead (scope_over scope (goes_over_rows j)) t (job_named j.name) (placed_calls j) r
 
 -- the text has more than 65,536 bytes
 pub record IsTooLong (text : List ℕ) (r : Result AbstractJob Cause) : Type 0 where

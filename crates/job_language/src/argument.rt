@@ -1,5 +1,6 @@
 //! The last part of a call: a column, an earlier job, a lambda, an operator.
 ghost use Rattle.std.specs.Prelude.{◌≡◌, IfOk, Ok, option_map};
+ghost use Rattle.tables.specs.Table.{cells_named};
 ghost use Rattle.lambda_values.specs.Lambda.{body_of};
 ghost use Rattle.lambda_expr.specs.CodeWords.{words_in};
 ghost use Rattle.job_language.specs.Shapes.{StandsIn, placed_in};
@@ -7,7 +8,8 @@ ghost use Rattle.job_language.specs.Scopes.{scope_of};
 ghost use Rattle.job_language.specs.Causes.{first_cause};
 ghost use Rattle.job_language.specs.Operators.{is_add_exact, spelled_op};
 ghost use Rattle.job_language.specs.Arguments.{text_answer, name_answer, argument_of, pair_argument};
-ghost use Rattle.job_language.specs.Arguments.{reference_cause, reference_causes, lambda_answer};
+ghost use Rattle.job_language.specs.Arguments.{cell_cause, cell_causes, reference_cause, reference_causes};
+ghost use Rattle.job_language.specs.Arguments.{lambda_answer};
 ghost use Rattle.job_language.specs.Arguments.{IsLambdaRead, IsOperatorRead, IsReadBy, IsArgumentRead};
 ghost use Rattle.job_language.specs.Rows.{job as named_job};
 ghost use Rattle.job_language.specs.Parts.{argument_in, Answers};
@@ -21,7 +23,7 @@ use crate::piece::WrittenCall;
 use crate::scope::{Scope, given};
 use crate::terminal::Gives;
 use crate::word::{name_in, string_in};
-use lambda_expr::{Want, read_lambda_of};
+use lambda_expr::{Want, read_lambda_within};
 use lambda_values::{Body, BoolExpr, InnerExpr, Lambda, LongExpr, PairForm};
 use reduce_ops::Op;
 use std::alloc::{AllocError, Global};
@@ -133,13 +135,42 @@ fn references_cause(scope: Scope, names: &[Bytes]) -> Option<Cause>
     None
 }
 
-/// A lambda whose references are checked.
+/// Why a cell of the column with this name is refused.
+fn cell_cause(scope: Scope, name: &[u8]) -> Option<Cause>
+    ensures { let s = scope_of scope.entry in result ≡ cell_cause s.rows (cells_named name.now s.columns) }
+{
+    if !scope.rows {
+        return Some(Cause::NoRow);
+    }
+    match scope.columns.get(name) {
+        Some(_) => None,
+        None => Some(Cause::UnknownColumn),
+    }
+}
+
+/// Why cells of columns with these names are refused, the first of them in order of writing.
+fn cells_cause(scope: Scope, names: &[Bytes]) -> Option<Cause>
+    ensures { result ≡ first_cause (cell_causes (scope_of scope.entry) names.now) }
+{
+    for name in names {
+        if let Some(cause) = cell_cause(scope, name.as_slice()) {
+            return Some(cause);
+        }
+    }
+    None
+}
+
+/// A lambda whose references and cells are checked.
 fn checked<'c>(alloc: Global, scope: Scope, lambda: Lambda) -> Result<Argument<'c>, Cause>
     ensures { Answers argument_in
         (λ r. lambda_answer (scope_of scope.entry) (Ok (body_of lambda.body)) ≡ r) result }
 {
     let names = lambda.names(alloc)?;
-    match references_cause(scope, &names) {
+    if let Some(cause) = references_cause(scope, &names) {
+        return Err(cause);
+    }
+    let cells = lambda.cells(alloc)?;
+    match cells_cause(scope, &cells) {
         Some(cause) => Err(cause),
         None => argument_of(lambda.body),
     }
@@ -154,7 +185,7 @@ fn read_lambda_part<'c>(
 ) -> Result<Argument<'c>, Cause>
     ensures { Answers argument_in (IsLambdaRead (scope_of scope.entry) text.now.bytes want) result }
 {
-    let lambda = read_lambda_of(alloc, text, want)?;
+    let lambda = read_lambda_within(alloc, text, want, scope.version >= 3)?;
     checked(alloc, scope, lambda)
 }
 

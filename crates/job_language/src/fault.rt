@@ -1,14 +1,18 @@
 //! Why a file of jobs is refused.
-ghost use Rattle.std.specs.Prelude.{◌≡◌, ◌≢◌};
+ghost use Rattle.std.specs.Prelude.{◌≡◌, ◌≢◌, Some};
 ghost use Rattle.job_language.specs.declared.fault.Cause.TheVariants.{NoMemory};
 ghost use Rattle.job_language.specs.FaultCauses.{cause_of, fault_of};
+ghost use Rattle.job_language.specs.FaultTexts.{cause_text, job_fault_text};
 
 use lambda_expr::ReadFault;
 use std::alloc::{AllocError, AllocFailed};
+use std::fmt;
+use std::fmt::{Display, Formatter, Write};
 use stream_tokens::TextFault;
+use thiserror::Error;
 
 /// Why a job is refused. The numbers are stable codes.
-#[derive(Clone, Copy, Debug, PartialEq, Eq)]
+#[derive(Clone, Copy, Debug, PartialEq, Eq, Error)]
 pub enum Cause {
     /// 1: the text is not in the grammar.
     Syntax,
@@ -41,6 +45,33 @@ pub enum Cause {
     NoMemory,
     /// 15: `onFault` after a terminal that gives no number.
     NotScalar,
+    /// 16: a cell in a job whose source isn't one column.
+    NoRow,
+}
+
+impl Display for Cause {
+    ghost output = { λ cause. Some (cause_text cause) };
+
+    fn fmt<W: Write>(&self, f: &mut Formatter<W>) -> fmt::Result {
+        match self {
+            Cause::Syntax => f.write_str("syntax"),
+            Cause::SameName => f.write_str("same name"),
+            Cause::UnknownColumn => f.write_str("unknown column"),
+            Cause::UnknownJob => f.write_str("unknown job"),
+            Cause::NotANumber => f.write_str("not a number"),
+            Cause::NotAnArray => f.write_str("not an array"),
+            Cause::NegativeCount => f.write_str("negative count"),
+            Cause::NotIdentity => f.write_str("not identity"),
+            Cause::NoIdentity => f.write_str("no identity"),
+            Cause::OperatorNotListed => f.write_str("operator not listed"),
+            Cause::BadRange => f.write_str("bad range"),
+            Cause::TooLong => f.write_str("too long"),
+            Cause::Expr(fault) => write!(f, "{fault}"),
+            Cause::NoMemory => f.write_str("out of memory"),
+            Cause::NotScalar => f.write_str("not scalar"),
+            Cause::NoRow => f.write_str("no row"),
+        }
+    }
 }
 
 impl From<AllocError> for Cause {
@@ -73,7 +104,7 @@ impl From<ReadFault> for Cause {
 
 /// The first job that is refused: the line that begins it, from 1, and why. With `NoMemory` the
 /// line is 0.
-#[derive(Clone, Copy, Debug, PartialEq, Eq)]
+#[derive(Clone, Copy, Debug, PartialEq, Eq, Error)]
 pub struct JobFault {
     pub line: u64,
     pub cause: Cause,
@@ -89,6 +120,18 @@ impl JobFault {
         match cause {
             Cause::NoMemory => JobFault { line: 0, cause },
             _ => JobFault { line, cause },
+        }
+    }
+}
+
+impl Display for JobFault {
+    ghost output = { λ fault. Some (job_fault_text fault) };
+
+    fn fmt<W: Write>(&self, f: &mut Formatter<W>) -> fmt::Result {
+        let line = self.line;
+        match self.cause {
+            Cause::NoMemory => f.write_str("out of memory"),
+            cause => write!(f, "line {line}: {cause}"),
         }
     }
 }

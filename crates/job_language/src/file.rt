@@ -1,9 +1,9 @@
 //! Whole files of jobs.
 ghost use Rattle.std.specs.Prelude.{◌≡◌, ◌≢◌, All, Ok, Err, IfOk, IfErr, OnOk};
 ghost use Rattle.stream_tokens.specs.Forms.{IsName};
-ghost use Rattle.stream_tokens.specs.JobTexts.{job_texts_of};
+ghost use Rattle.stream_tokens.specs.JobTexts.{job_texts_of, job_texts_within};
 ghost use Rattle.stream_tokens.specs.TextsLeft.{HasText};
-ghost use Rattle.job_language.specs.Files.{IsNext, IsRefused, SpellsJobs};
+ghost use Rattle.job_language.specs.Files.{IsNext, IsRefused, IsRefusedWithin, SpellsJobs, SpellsJobsWithin};
 ghost use Rattle.job_language.specs.FileSteps.{IsNextJob, IsNextFault};
 ghost use Rattle.job_language.specs.Jobs.{job_of, jobs_of, names_of};
 
@@ -11,9 +11,9 @@ use crate::fault::{Cause, JobFault};
 use crate::job::Job;
 use crate::read::read_job;
 use crate::scope::Scope;
-use columns::Columns;
 use std::alloc::Global;
-use stream_tokens::{JobText, JobTexts, version_of};
+use stream_tokens::{JobText, JobTexts, version_within};
+use tables::Columns;
 
 /// How many jobs a file may have.
 const MAX_JOBS: usize = 256;
@@ -37,6 +37,7 @@ fn read_below<'c>(
     }
     let scope = Scope {
         version,
+        rows: false,
         jobs,
         columns,
     };
@@ -83,8 +84,27 @@ pub fn read_jobs<'c>(
     ensures texts { IfErr result (λ fault. fault.cause ≡ Cause.NoMemory
         → HasText (job_texts_of bytes.now)) }
 {
-    let version = version_of(bytes);
-    let mut texts = JobTexts::of(bytes);
+    read_jobs_within(alloc, bytes, columns, 2)
+}
+
+/// The jobs of a file, or the first fault in file order, as `read_jobs` gives them, where the newest version of the
+/// language is this. With 3, a file whose first line that isn't skipped is `version 3` is of version 3.
+pub fn read_jobs_within<'c>(
+    alloc: Global,
+    bytes: &[u8],
+    columns: &'c Columns,
+    newest: u8,
+) -> Result<Vec<Job<'c>>, JobFault>
+    ensures ok { IfOk result (λ jobs. SpellsJobsWithin newest bytes.now columns.now (jobs_of jobs.items)) }
+    ensures names { IfOk result (λ jobs. All IsName (names_of (jobs_of jobs.items))) }
+    ensures refused { IfErr result (λ fault. fault.cause ≢ Cause.NoMemory
+        → IsRefusedWithin newest bytes.now columns.now fault) }
+    ensures memory { IfErr result (λ fault. fault.cause ≡ Cause.NoMemory → fault.line ≡ 0) }
+    ensures texts { IfErr result (λ fault. fault.cause ≡ Cause.NoMemory
+        → HasText (job_texts_within newest bytes.now)) }
+{
+    let version = version_within(newest, bytes);
+    let mut texts = JobTexts::within(newest, bytes);
     let mut jobs = Vec::new(alloc);
     while let Some(text) = texts.next_text(alloc)? {
         read_next(alloc, version, columns, &mut jobs, &text)?;

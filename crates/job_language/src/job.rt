@@ -6,6 +6,7 @@ use crate::terminal::Terminal;
 use reduce_ops::Op;
 use slice_ops::Slice;
 use stream_tokens::Bytes;
+use tables::Columns;
 use trace::Stage;
 
 /// A source that is no `concat`.
@@ -50,6 +51,8 @@ pub struct Job<'c> {
     pub terminal: Terminal,
     /// `onFault(number)`: the number that the job gives after a fault; only if the terminal gives a number.
     pub on_fault: Option<i64>,
+    /// The columns whose rows the items are, if the only source is a column and lambdas may have cells.
+    pub table: Option<&'c Columns>,
     ghost few: { length stages.items ≤ 32 },
 }
 

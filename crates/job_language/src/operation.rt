@@ -33,6 +33,7 @@ pub enum Operation {
     AnyMatch,
     AllMatch,
     NoneMatch,
+    SumExact,
     OnFault,
 }
 
@@ -47,7 +48,7 @@ pub enum Role {
     Stage,
     /// At the end.
     Terminal,
-    /// After the terminal, in version 2.
+    /// After the terminal, from version 2 on.
     Fallback,
 }
 
@@ -99,7 +100,7 @@ pub enum Params {
 }
 
 /// All operations.
-const OPERATIONS: [Operation; 26] = [
+const OPERATIONS: [Operation; 27] = [
     Operation::Range,
     Operation::RangeClosed,
     Operation::Of,
@@ -125,6 +126,7 @@ const OPERATIONS: [Operation; 26] = [
     Operation::AnyMatch,
     Operation::AllMatch,
     Operation::NoneMatch,
+    Operation::SumExact,
     Operation::OnFault,
 ];
 

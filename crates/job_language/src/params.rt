@@ -1,10 +1,21 @@
 //! What the table of operations says of an operation: where it stands, how many arguments it takes, and what each is.
 
 ghost use Rattle.std.specs.Prelude.{◌≡◌, ◌<◌};
-ghost use Rattle.job_language.specs.Table.{role_of, params_of, allows, param_of};
+ghost use Rattle.job_language.specs.Table.{role_of, params_of, allows, param_of, version_of_operation};
 
 use crate::operation::{Operation, Param, Params, Role};
 use crate::row::row;
+
+/// The first version of the language that has an operation.
+pub fn version_of_operation(operation: Operation) -> u8
+    ensures { result ≡ version_of_operation operation }
+{
+    match operation {
+        Operation::OnFault => 2,
+        Operation::SumExact => 3,
+        _ => 1,
+    }
+}
 
 /// Where an operation stands in a job.
 pub fn role_of(operation: Operation) -> Role

@@ -1,10 +1,11 @@
 //! The parts of a job, one call after the other.
 ghost use Rattle.std.specs.Prelude.{◌≡◌, ◌≤◌, IfOk, Ok, length, option_map};
+ghost use Rattle.lambda_values.specs.Earlier.{table_in};
 ghost use Rattle.lambda_expr.specs.CodeWords.{words_in};
 ghost use Rattle.job_language.specs.Shapes.{StandsIn, StandIn, placed_in, all_placed};
 ghost use Rattle.job_language.specs.Scopes.{scope_of};
 ghost use Rattle.job_language.specs.Causes.{stage_cause};
-ghost use Rattle.job_language.specs.Verdicts.{added, below_terminal, finished, job_named};
+ghost use Rattle.job_language.specs.Verdicts.{added, below_terminal, finished, job_named, table_of};
 ghost use Rattle.job_language.specs.Verdicts.{IsCallRead, IsNextCall, AreRead};
 ghost use Rattle.job_language.specs.Jobs.{job_of, terminal_of};
 ghost use Rattle.job_language.specs.Parts.{part_in, begun_of, answer_in, Answers, Leads};
@@ -21,6 +22,7 @@ use crate::scope::Scope;
 use crate::terminal::{Gives, Terminal};
 use std::alloc::{AllocError, Global};
 use stream_tokens::{Bytes, CutText};
+use tables::Columns;
 
 /// How many stages a job may have.
 const MAX_STAGES: usize = 32;
@@ -43,9 +45,10 @@ fn read_call<'c>(
 
 impl<'c> BegunJob<'c> {
     /// The job, after its last call.
-    fn finished(self) -> Result<Job<'c>, Cause>
-        ensures { answer_in job_of result ≡ finished (begun_of self.entry) }
+    fn finished(self, scope: Scope<'_, 'c>) -> Result<Job<'c>, Cause>
+        ensures { answer_in job_of result ≡ finished (scope_of scope.entry) (begun_of self.entry) }
     {
+        let table = table_of(scope);
         let BegunJob {
             name,
             sources,
@@ -60,6 +63,7 @@ impl<'c> BegunJob<'c> {
                 stages,
                 terminal,
                 on_fault,
+                table,
             }),
             None => Err(Cause::Syntax),
         }
@@ -115,6 +119,17 @@ fn below_terminal<'c>(
     }
 }
 
+/// The columns whose rows the items are, if lambdas may have cells of them.
+fn table_of<'c>(scope: Scope<'_, 'c>) -> Option<&'c Columns>
+    ensures { table_in result ≡ table_of (scope_of scope.entry) }
+{
+    if scope.version >= 3 && scope.rows {
+        Some(scope.columns)
+    } else {
+        None
+    }
+}
+
 /// Reads the call after the calls of this job.
 fn read_next_call<'c>(
     job: &BegunJob<'c>,
@@ -144,7 +159,7 @@ fn add_parts<'c>(
 ) -> Result<(), Cause>
     requires { StandIn (words_in text.now) calls.now }
     ensures { Leads (AreRead (scope_of scope.entry) text.now (begun_of job.old)
-        (all_placed (words_in text.now) calls.now)) (begun_of job.new) result }
+        (all_placed (words_in text.now) calls.now)) (scope_of scope.entry) (begun_of job.new) result }
 {
     for call in calls {
         let part = read_next_call(job, alloc, scope, text, call)?;
@@ -174,5 +189,5 @@ pub fn read_parts<'c>(
         on_fault: None,
     };
     add_parts(&mut job, alloc, scope, text, calls)?;
-    job.finished()
+    job.finished(scope)
 }

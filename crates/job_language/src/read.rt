@@ -1,13 +1,13 @@
 //! One job, read from its text.
-ghost use Rattle.std.specs.Prelude.{◌≡◌, ◌≢◌, ◌≤◌, ◌&&◌, List, IfErr, IfOk, Ok, Err, length, nat_lt};
+ghost use Rattle.std.specs.Prelude.{◌≡◌, ◌≢◌, ◌≤◌, List, IfErr, IfOk, Ok, Err, length};
 ghost use Rattle.stream_tokens.specs.Tokens.{AreTokensOf};
 ghost use Rattle.lambda_expr.specs.Words.{Word as meant};
 ghost use Rattle.job_language.specs.declared.fault.Cause.TheVariants.{NoMemory};
 ghost use Rattle.lambda_expr.specs.CodeWords.{words_in};
 ghost use Rattle.job_language.specs.Grammar.{Job as meant_job, IsJob};
 ghost use Rattle.job_language.specs.Shapes.{calls_in, all_placed, AreCallsIn, one_if_source};
-ghost use Rattle.job_language.specs.Shapes.{sources_in, is_fallback, ends_in_fallback, first_name};
-ghost use Rattle.job_language.specs.Causes.{when};
+ghost use Rattle.job_language.specs.Shapes.{begins_with_column, has_one_column, sources_in, first_name};
+ghost use Rattle.job_language.specs.Causes.{has_later_call, when};
 ghost use Rattle.job_language.specs.Jobs.{job_of};
 ghost use Rattle.job_language.specs.Scopes.{scope_of};
 ghost use Rattle.job_language.specs.Verdicts.{IsRead};
@@ -16,8 +16,8 @@ ghost use Rattle.job_language.specs.Parts.{Answers, causes_before};
 use crate::causes::{name_cause, when};
 use crate::fault::Cause;
 use crate::job::Job;
-use crate::operation::Role;
-use crate::params::role_of;
+use crate::operation::{Operation, Role};
+use crate::params::{role_of, version_of_operation};
 use crate::parts::read_parts;
 use crate::piece::WrittenCall;
 use crate::scope::Scope;
@@ -53,28 +53,23 @@ fn sources_in(calls: &[WrittenCall]) -> usize
     count
 }
 
-fn is_fallback(role: Role) -> bool
-    ensures { result ≡ is_fallback role }
+/// Whether one of the calls is of a later version than this.
+fn has_later_call(version: u8, calls: &[WrittenCall]) -> bool
+    ensures { (ws : List meant) → result ≡ has_later_call version (calls_in ws calls.now) }
 {
-    matches!(role, Role::Fallback)
-}
-
-/// Whether the last of the calls is a fallback.
-fn ends_in_fallback(calls: &[WrittenCall]) -> bool
-    ensures { (ws : List meant) → result ≡ ends_in_fallback (calls_in ws calls.now) }
-{
-    match calls.len() {
-        0 => false,
-        count => is_fallback(role_of(calls[count - 1].operation)),
+    for call in calls {
+        if version < version_of_operation(call.operation) {
+            return true;
+        }
     }
+    false
 }
 
 /// Why a job with these calls is none of this version.
 fn version_cause(version: u8, calls: &[WrittenCall]) -> Option<Cause>
-    ensures { (ws : List meant) → result
-        ≡ when (ends_in_fallback (calls_in ws calls.now) && nat_lt version 2) Cause.Syntax }
+    ensures { (ws : List meant) → result ≡ when (has_later_call version (calls_in ws calls.now)) Cause.Syntax }
 {
-    when(ends_in_fallback(calls) && version < 2, Cause::Syntax)
+    when(has_later_call(version, calls), Cause::Syntax)
 }
 
 /// The name that a text begins with.
@@ -102,6 +97,22 @@ fn early_cause(scope: Scope, text: &CutText, calls: &[WrittenCall]) -> Option<Ca
     None
 }
 
+fn begins_with_column(calls: &[WrittenCall]) -> bool
+    ensures { (ws : List meant) → result ≡ begins_with_column (calls_in ws calls.now) }
+{
+    match calls {
+        [call, ..] => call.operation == Operation::Column,
+        [] => false,
+    }
+}
+
+/// Whether the one source among the calls is a column, so that the items are rows.
+fn goes_over_rows(calls: &[WrittenCall]) -> bool
+    ensures { (ws : List meant) → result ≡ has_one_column (calls_in ws calls.now) }
+{
+    sources_in(calls) == 1 && begins_with_column(calls)
+}
+
 /// Reads a job from its text and tokens.
 fn read_cut<'c>(alloc: Global, scope: Scope<'_, 'c>, text: &CutText) -> Result<Job<'c>, Cause>
     requires short { length text.now.bytes ≤ 65536 }
@@ -114,6 +125,10 @@ fn read_cut<'c>(alloc: Global, scope: Scope<'_, 'c>, text: &CutText) -> Result<J
     if let Some(cause) = early_cause(scope, text, &calls) {
         return Err(cause);
     }
+    let scope = Scope {
+        rows: goes_over_rows(&calls),
+        ..scope
+    };
     read_parts(alloc, scope, text, first_name(text), &calls)
 }
 

@@ -61,6 +61,7 @@ pub(crate) fn row(operation: Operation) -> (&'static str, Role, Params)
         Operation::AnyMatch => ("anyMatch", Role::Terminal, Params::Test),
         Operation::AllMatch => ("allMatch", Role::Terminal, Params::Test),
         Operation::NoneMatch => ("noneMatch", Role::Terminal, Params::Test),
+        Operation::SumExact => ("sumExact", Role::Terminal, Params::Nothing),
         Operation::OnFault => ("onFault", Role::Fallback, Params::Number),
     }
 }
@@ -79,6 +80,7 @@ fn of_nothing<'c>(operation: Operation, numbers: Vec<i64>) -> Result<CallPart<'c
         Operation::Max => Terminal::Max,
         Operation::FindFirst => Terminal::Find(FindTerminal::First),
         Operation::ToArray => Terminal::ToArray,
+        Operation::SumExact => Terminal::ExactSum,
         _ => return Err(Cause::Syntax),
     };
     Ok(CallPart::Terminal(terminal))

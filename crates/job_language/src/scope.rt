@@ -6,13 +6,15 @@ ghost use Rattle.job_language.specs.Verdicts.{earlier_of};
 
 use crate::job::Job;
 use crate::terminal::Gives;
-use columns::Columns;
+use tables::Columns;
 
-/// The jobs above the one that is read, in file order, the columns, and the version of the language.
+/// What a job is read with: the version of the language, the jobs above it in file order, and the columns.
 #[derive(Clone, Copy)]
 pub struct Scope<'s, 'c> {
-    /// 1, or 2 if a fallback may stand after the terminal.
+    /// The version of the language: 1, 2, or 3 if lambdas may have cells and rows.
     pub version: u8,
+    /// Whether the items of the job are rows of the columns.
+    pub rows: bool,
     pub jobs: &'s [Job<'c>],
     pub columns: &'c Columns,
 }

@@ -24,7 +24,8 @@ pub enum Terminal {
     ReduceFrom { identity: i64, op: Op },
     /// `findFirst()` and the three matches.
     Find(FindTerminal),
-    /// `reduce(0, Math::addExact)`: the sum, or a fault at the first item after which it is outside 64 bits.
+    /// `reduce(0, Math::addExact)` and `sumExact()`: the sum, or a fault at the first item after which it is outside
+    /// 64 bits.
     ExactSum,
 }
 

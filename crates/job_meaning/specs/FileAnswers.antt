@@ -1,6 +1,6 @@
 -- Meaning: the answers of the jobs of a file.
 use Rattle.std.specs.Prelude.{ℕ, suc, ℤ, if◌then◌else◌, List, [], ◌∷◌, ◌++◌, Option, Some, None}
-use Rattle.lambda_values.specs.Earlier.{Numbers}
+use Rattle.lambda_values.specs.declared.env.NamedNumber.{NamedNumber}
 use Rattle.job_language.specs.Jobs.{AbstractPlainSource, range, range_closed, values, result, AbstractJob}
 use Rattle.job_meaning.specs.declared.answer.Answer.{Answer}
 use Rattle.job_meaning.specs.declared.answer.Answer.TheVariants as answer
@@ -44,12 +44,12 @@ first_unusable [] = None
 first_unusable (j ∷ js) = if is_usable j.answer then first_unusable js else Some j.place
 
 -- helper: a number under a name, if there is one
-abbrev pub numbered : List ℕ → Option ℤ → Numbers
+abbrev pub numbered : List ℕ → Option ℤ → List NamedNumber
 numbered name None = []
 numbered name (Some z) = record { name = name; number = z } ∷ []
 
 -- the numbers of these jobs, under their names
-abbrev pub numbers_of : List EarlierJob → Numbers
+abbrev pub numbers_of : List EarlierJob → List NamedNumber
 numbers_of [] = []
 numbers_of (j ∷ js) = numbered j.name (number_of j.answer) ++ numbers_of js
 
@@ -79,7 +79,7 @@ unless_unusable (Some place) a = answer.Unusable place
 -- of its walk, with their numbers and arrays
 abbrev pub answer_with : List EarlierJob → AbstractJob → Answer
 answer_with named job =
-    unless_unusable (first_unusable named) (answer_of_job (numbers_of named) (record job { sources = all_put_in named job.sources }))
+    unless_unusable (first_unusable named) (answer_of_job (record { earlier = numbers_of named; table = job.table }) (record job { sources = all_put_in named job.sources }))
 
 -- the answer of a job after the jobs before it
 abbrev pub answer_after : List NamedAnswer → AbstractJob → Answer

@@ -3,7 +3,7 @@
 use Rattle.std.specs.Prelude.{ℕ, suc, ◌-◌, ◌==◌, ◌||◌, nat_lt, Bool, false, is_some, if◌then◌else◌, List, [], ◌∷◌, length, Option, None, Result}
 use Rattle.std.specs.Option.{option_or}
 use Rattle.lambda_values.specs.Earlier.{Numbers}
-use Rattle.trace.specs.declared.item.Item.{Item}
+use Rattle.lambda_values.specs.declared.item.Item.{Item}
 use Rattle.trace.specs.declared.item.Fault.{Fault}
 use Rattle.trace.specs.declared.item.End.{End}
 use Rattle.trace.specs.declared.item.End.TheVariants as end

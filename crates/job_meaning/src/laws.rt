@@ -2,7 +2,7 @@
 
 ghost use Rattle.std.specs.Prelude.{◌≡◌, ℕ, true, List};
 ghost use Rattle.lambda_values.specs.Earlier.{Numbers};
-ghost use Rattle.trace.specs.declared.item.Item.{Item as meant_item};
+ghost use Rattle.lambda_values.specs.declared.item.Item.{Item as meant_item};
 ghost use Rattle.trace.specs.declared.item.End.{End as meant_end};
 ghost use Rattle.trace.specs.Trace.{Trace, nothing, trace};
 ghost use Rattle.find_ops.specs.Finds.{Find, decision_of};

@@ -5,7 +5,7 @@ use Rattle.std.proofs.lemmas.List.{append-nil, length-drop, length-take}
 use Rattle.std.specs.Int.{w64}
 use Rattle.lambda_values.specs.Earlier.{Numbers}
 use Rattle.lambda_values.specs.Wrap.{wrap}
-use Rattle.trace.specs.declared.item.Item.{Item}
+use Rattle.lambda_values.specs.declared.item.Item.{Item}
 use Rattle.trace.specs.declared.item.End.{End}
 use Rattle.trace.specs.declared.item.End.TheVariants as end
 use Rattle.trace.specs.Stages.{AbstractStage, pipe, stages_of}

@@ -1,8 +1,8 @@
 -- Parts of a prefix over sources whose items are lent, and how many items sources have.
 use Rattle.std.proofs.Common.{◌≡◌, ℕ, false, Option, Some, None, List, [], ◌++◌, sym, ap, subst, ◌∙◌, append_assoc, refl, ◌+◌, ◌-◌, ◌<◌, ◌≤◌, ◌^◌, min, ℤ, Bool, true, if◌then◌else◌, nat_lt, ◌∷◌, length, take, drop, arith}
 use Rattle.std.proofs.lemmas.List.{append-nil}
-use Rattle.lambda_values.specs.Earlier.{Numbers}
-use Rattle.trace.specs.declared.item.Item.{Item}
+use Rattle.lambda_values.specs.Earlier.{Numbers, nothing_named}
+use Rattle.lambda_values.specs.declared.item.Item.{Item}
 use Rattle.trace.specs.declared.item.End.{End}
 use Rattle.trace.specs.declared.item.End.TheVariants as end
 use Rattle.trace.specs.Stages.{AbstractStage, pipe, stages_of}
@@ -60,7 +60,7 @@ lent_stands segment prefix p t env e plain is =
     let n = segment.stages.first in
     let gs = stages_of segment.stages.list.items in
     let last : ℕ = number_after segment.stages in
-    let none : Numbers = [] in
+    let none : Numbers = nothing_named in
     let walk : pipe n gs env t ≡ trace (left_by gs t.items) t.ending = (plain none).0 n env tt t.items t.ending in
     let stands : p ≡ scan prefix.op prefix.range last (pipe n gs env t) = is ∙ ap (scan prefix.op prefix.range last) (sym walk) in
     subst (λ d. EndsFor (end_in d) last env (part.Prefix p) (pipe n gs env t)) (sym e) stands

@@ -1,6 +1,7 @@
 -- The answers of routes are the answers of their file.
 use Rattle.std.proofs.Common.{◌≡◌, ℕ, suc, Bool, true, false, List, [], ◌∷◌, ◌++◌, length, Option, Some, None, refl, sym, ap, subst, ◌∙◌}
 use Rattle.std.specs.Prelude.{if◌then◌else◌, map, slice_get}
+use Rattle.lambda_values.specs.Earlier.{Numbers}
 use Rattle.job_language.specs.Jobs.{AbstractJob, job_stages_of, names_of}
 use Rattle.job_language.specs.declared.job.JobStage.{JobStage}
 use Rattle.job_meaning.specs.declared.answer.Answer.{Answer}
@@ -8,9 +9,9 @@ use Rattle.job_plan.specs.declared.plan.Named.{Named}
 use Rattle.job_meaning.specs.FileAnswers.{EarlierJob, NamedAnswer, answer_after, answers_after, meaning_of, all_put_in, first_unusable, found, found_later, job_found, jobs_found, numbers_of, unless_unusable}
 use Rattle.job_meaning.specs.Names.{names_in_job, one_later, place_of, same_name}
 use Rattle.job_plan.specs.declared.plan.JobPlan.{JobPlan}
-use Rattle.job_plan.specs.Plans.{AbstractPlan, AreRoutes, IsRoute, all_placed, job_at, jobs_at, placed, plan_names, planned_after, planned_from, planned_meaning, plans_in}
+use Rattle.job_plan.specs.Plans.{AbstractPlan, AreRoutes, IsRoute, all_placed, job_at, jobs_at, placed, plan_names, planned_after, planned_answer, planned_from, planned_meaning, plans_in}
 use Rattle.job_routes.specs.Legs.{legs_answer}
-use Rattle.job_meaning.specs.Walks.{fallback_of, instead_of_fault, source_walk}
+use Rattle.job_meaning.specs.Walks.{answer_of_job, fallback_of, instead_of_fault, source_walk}
 
 abbrev names_in : List NamedAnswer → List (List ℕ)
 names_in before = map (λ (a : NamedAnswer). a.name) before
@@ -70,14 +71,21 @@ jobs_placed before (name ∷ names) =
     job_placed (answers_in before) name (place_of (names_in before) name) (all_placed (names_in before) names)
     ∙ (λ i. job_found name (found_placed before name i) ++ jobs_placed before names i)
 
+-- ---- a job
+
+pub route_answers : (before : List (List ℕ)) (plan : AbstractPlan) (job : AbstractJob) (env : Numbers) → IsRoute before plan job → planned_answer env plan ≡ answer_of_job env job
+route_answers before plan job env h =
+    (λ i. instead_of_fault (h.fallback i) (legs_answer plan.legs env (source_walk (h.sources i))))
+    ∙ ap (instead_of_fault (fallback_of job)) (h.answers env job.sources)
+
 -- ---- the jobs of a file
 
 one_answer : (before : List NamedAnswer) (plan : AbstractPlan) (job : AbstractJob) → IsRoute (names_in before) plan job → planned_after (answers_in before) plan ≡ answer_after before job
 one_answer before plan job h =
     let named = jobs_found before (names_in_job job) in
     let all = ap (jobs_at (answers_in before)) h.named ∙ jobs_placed before (names_in_job job) in
-    (λ i. unless_unusable (first_unusable (all i)) (instead_of_fault (h.fallback i) (legs_answer plan.legs (numbers_of (all i)) (source_walk (all_put_in (all i) (h.sources i))))))
-    ∙ ap (λ (a : Answer). unless_unusable (first_unusable named) (instead_of_fault (fallback_of job) a)) (h.answers (numbers_of named) (all_put_in named job.sources))
+    (λ i. unless_unusable (first_unusable (all i)) (instead_of_fault (h.fallback i) (legs_answer plan.legs (record { earlier = numbers_of (all i); table = h.table i }) (source_walk (all_put_in (all i) (h.sources i))))))
+    ∙ ap (λ (a : Answer). unless_unusable (first_unusable named) (instead_of_fault (fallback_of job) a)) (h.answers (record { earlier = numbers_of named; table = job.table }) (all_put_in named job.sources))
 
 each_answer : (before : List NamedAnswer) (plans : List AbstractPlan) (jobs : List AbstractJob) → AreRoutes (names_in before) plans jobs → planned_from (answers_in before) plans ≡ answers_after before jobs
 each_answer before [] [] h = refl

@@ -1,7 +1,7 @@
 -- What is asked of each end of a segment: parts of no item, of one more item, of pieces side by side; what settles them, and what they give.
 use Rattle.std.proofs.Common.{◌≡◌, ℕ, zero, suc, ◌+◌, ◌-◌, ◌≤◌, ℤ, pos, Bool, true, false, if◌then◌else◌, is_some, List, [], ◌∷◌, ◌++◌, length, take, map as each_of, Option, Some, Result, Ok, Err, OnOk, refl, sym, ap, subst, ◌∙◌, append_assoc, arith}
 use Rattle.lambda_values.specs.Earlier.{Numbers}
-use Rattle.trace.specs.declared.item.Item.{Item}
+use Rattle.lambda_values.specs.declared.item.Item.{Item}
 use Rattle.trace.specs.declared.item.Fault.{Fault}
 use Rattle.trace.specs.declared.item.End.{End}
 use Rattle.trace.specs.declared.item.End.TheVariants as end
@@ -161,6 +161,15 @@ pub arrays_merge : (e : AbstractEnd) (n : ℕ) (env : Numbers) (a b : Trace) (p 
     → EndsFor e n env (part.Array p) a → EndsFor e n env (part.Array q) b → EndsFor e n env (part.Array r) (append a b)
 arrays_merge collecting n env a b p q r is s t = is ∙ (λ i. array_append (s i) (t i)) ∙ sym (array_joined a b)
 arrays_merge e n env a b p q r is s t = s
+
+-- values that are added after the others
+pub array_goes_on : (e : AbstractEnd) (n : ℕ) (env : Numbers) (t : Trace) (xs : List Item) (vs : List ℤ) (p r : AbstractArray) → each_of (λ (x : Item). x.value) xs ≡ vs → p.ending ≡ end.Done
+    → r ≡ array (p.values ++ vs) end.Done → EndsFor e n env (part.Array p) t → EndsFor e n env (part.Array r) (append t (trace xs end.Done))
+array_goes_on collecting n env t xs vs p r values done is h =
+    is ∙ sym (ap (λ (k : End). values_then p.values k (array vs end.Done)) done)
+    ∙ (λ i. array_append (h i) (array (sym values i) end.Done))
+    ∙ sym (array_joined t (trace xs end.Done))
+array_goes_on e n env t xs vs p r values done is h = h
 
 pub prefixes_merge : (e : AbstractEnd) (n : ℕ) (env : Numbers) (a b : Trace) (p q r : AbstractScan) → (q.op ≡ p.op → r ≡ scan_append p q.walk)
     → EndsFor e n env (part.Prefix p) a → EndsFor e n env (part.Prefix q) b → EndsFor e n env (part.Prefix r) (append a b)

@@ -1,8 +1,8 @@
 -- Walks of segments in pieces.
-use Rattle.std.proofs.Common.{◌≡◌, ℕ, ◌≤◌, length, arith, Bool, true, false, List, [], ◌++◌, take, Option, Some, None, IfSome, IfOk, Result, Ok, Err, refl, sym, subst, ◌∙◌, drop, ap}
+use Rattle.std.proofs.Common.{◌≡◌, ℕ, ◌<◌, ◌≤◌, append-nil, length, arith, Bool, true, false, List, [], ◌++◌, take, Option, Some, None, IfSome, IfOk, Result, Ok, Err, refl, sym, subst, ◌∙◌, drop, ap}
 use Rattle.std.proofs.lemmas.List.{take_all, append-nil, take-append-drop}
 use Rattle.lambda_values.specs.Earlier.{Numbers}
-use Rattle.trace.specs.declared.item.Item.{Item}
+use Rattle.lambda_values.specs.declared.item.Item.{Item}
 use Rattle.trace.specs.declared.item.Fault.{Fault}
 use Rattle.trace.specs.declared.item.End.TheVariants as end
 use Rattle.trace.specs.Trace.{Trace, trace, append}
@@ -153,3 +153,7 @@ enough_at_last h xs items took = (length items, omega arith, subst (λ (zs : Lis
 -- an answer, if there is one
 pub same_answer : (r : Result Answer AllocError) (x y : Answer) → x ≡ y → IfOk r (λ a. a ≡ x) → IfOk r (λ a. a ≡ y)
 same_answer r x y e h = subst (λ (z : Answer). IfOk r (λ a. a ≡ z)) e h
+
+-- a walk that was refused at its first item
+pub refused_at_first : {S : Type 0} (has_taken : S → List Item → Type 0) (xs : List Item) (t : Trace) (s : S) (e : AllocError) (r : Result Fed AllocError) → r ≡ Err e → 0 < length t.items → has_taken s xs → IsFed has_taken xs t r s
+refused_at_first has_taken xs t s e r is some h = rw is (0, some, rw (append-nil xs) h)

@@ -1,6 +1,6 @@
 -- Condition: the values of a walk, without places.
 use Rattle.std.specs.Prelude.{ℤ, List, ◌++◌, map as each_of}
-use Rattle.trace.specs.declared.item.Item.{Item}
+use Rattle.lambda_values.specs.declared.item.Item.{Item}
 use Rattle.trace.specs.declared.item.End.{End}
 use Rattle.trace.specs.declared.item.End.TheVariants as end
 use Rattle.trace.specs.Trace.{Trace}

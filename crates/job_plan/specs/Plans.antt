@@ -1,6 +1,8 @@
 -- Design: the routes of the jobs of a file.
 use Rattle.std.specs.Prelude.{◌≡◌, ℕ, suc, List, [], ◌∷◌, ◌++◌, length, Option, Some, None, option_map, slice_get}
 use Rattle.lambda_values.specs.Earlier.{Numbers}
+use Rattle.tables.specs.Table.{NamedColumn}
+use Rattle.lambda_values.specs.Earlier.{table_in}
 use Rattle.job_language.specs.Jobs.{AbstractJob, AbstractPlainSource, sources_of}
 use Rattle.job_meaning.specs.declared.answer.Answer.{Answer}
 use Rattle.job_meaning.specs.FileAnswers.{EarlierJob, all_put_in, first_unusable, numbers_of, unless_unusable}
@@ -17,6 +19,7 @@ pub record AbstractPlan : Type 0 where
   pub sources : List AbstractPlainSource
   pub legs : AbstractLegs
   pub fallback : Option Answer
+  pub table : List NamedColumn
 
 -- helper: a name with its place, if it has one
 abbrev pub placed : List ℕ → Option ℕ → List Named
@@ -46,7 +49,7 @@ jobs_at before (n ∷ ns) = job_at n (slice_get before n.job) ++ jobs_at before 
 abbrev pub planned_after : List Answer → AbstractPlan → Answer
 planned_after before plan =
     let named = jobs_at before plan.named in
-    unless_unusable (first_unusable named) (planned_answer (numbers_of named) (record plan { sources = all_put_in named plan.sources }))
+    unless_unusable (first_unusable named) (planned_answer (record { earlier = numbers_of named; table = plan.table }) (record plan { sources = all_put_in named plan.sources }))
 
 -- the answers of jobs in file order, after the answers of the jobs before them
 abbrev pub planned_from : List Answer → List AbstractPlan → List Answer
@@ -64,6 +67,7 @@ pub record IsRoute (before : List (List ℕ)) (plan : AbstractPlan) (job : Abstr
   pub named : plan.named ≡ all_placed before (names_in_job job)
   pub sources : plan.sources ≡ job.sources
   pub fallback : plan.fallback ≡ fallback_of job
+  pub table : plan.table ≡ job.table
   pub answers : (env : Numbers) (ss : List AbstractPlainSource) → legs_answer plan.legs env (source_walk ss)
       ≡ answer_of (suc (length job.stages)) env job.terminal (after_stages 1 job.stages env (source_walk ss))
 
@@ -82,6 +86,7 @@ plan_in j = record {
   sources = sources_of j.sources.items;
   legs = record { scans = legs_in j.scans.items; last = leg_in j.last };
   fallback = option_map fallback_in j.fallback;
+  table = table_in j.table;
 }
 
 abbrev pub plans_in : List JobPlan → List AbstractPlan

@@ -7,10 +7,11 @@ ghost use Rattle.job_meaning.specs.Walks.{unless_fault};
 ghost use Rattle.job_plan.specs.declared.part.Part.TheVariants as part;
 
 use crate::end_part::{EndPart, LastStage, is_fault};
+use batch_eval::LaneItems;
 use job_meaning::{Answer, Values};
 use std::alloc::Global;
 use std::marker::Model;
-use trace::{End, NoMemory, SourceItems};
+use trace::{End, NoMemory};
 
 /// The values of a piece, without the places of its items, and how the walk ended. Contracts see just that.
 ///
@@ -108,14 +109,13 @@ impl ArrayPart {
 impl EndPart for ArrayPart {
     ghost as_part = { part.Array };
 
-    fn push_all<I: SourceItems>(
+    fn push_all(
         &mut self,
         _last: LastStage<'_, '_>,
-        _source: &I,
-        values: &[i64],
+        lanes: LaneItems<'_>,
         _room: &mut [i64],
     ) -> Result<(), NoMemory> {
-        ArrayPart::push_all(self, values)
+        ArrayPart::push_all(self, lanes.values)
     }
 
     fn end_with(&mut self, ending: End) {

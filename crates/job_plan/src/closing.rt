@@ -3,7 +3,7 @@
 ghost use Rattle.std.specs.Prelude.{◌≡◌, [], List, IfOk};
 ghost use Rattle.trace.specs.Trace.{Trace, append, trace};
 ghost use Rattle.trace.specs.declared.item.End.TheVariants as end;
-ghost use Rattle.trace.specs.declared.item.Item.{Item};
+ghost use Rattle.lambda_values.specs.declared.item.Item.{Item};
 ghost use Rattle.job_plan.specs.Parts.{GoesOnFrom, flow_of};
 ghost use Rattle.job_routes.specs.Legs.{end_in};
 

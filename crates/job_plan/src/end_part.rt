@@ -1,28 +1,27 @@
 //! What is asked of the parts that pieces give to an end of a segment, whichever kind of end it is.
 
-ghost use Rattle.batch_eval.specs.Batches.{flagged_values, holds};
+ghost use Rattle.batch_eval.specs.Batches.{flagged_values, holds, laid_items};
 ghost use Rattle.std.specs.Prelude.{◌≡◌, ◌<◌, ◌≤◌, ℕ, false, true, List, [], ◌∷◌, length, map, IfOk, IfErr, OnOk};
 ghost use Rattle.std.specs.Prelude.{OnErr};
 ghost use Rattle.lambda_values.specs.Earlier.{Numbers};
 ghost use Rattle.trace.specs.Trace.{Trace, trace, append};
 ghost use Rattle.trace.specs.declared.item.End.TheVariants as end;
-ghost use Rattle.trace.specs.declared.item.Item.{Item as item};
+ghost use Rattle.lambda_values.specs.declared.item.Item.{Item as item};
 ghost use Rattle.job_plan.specs.Parts.{EndsFor, is_fault, is_settled, keeps_items, may_search};
 ghost use Rattle.job_routes.specs.Legs.{end_in, AbstractEnd};
 ghost use Rattle.job_plan.specs.declared.part.Part.{Part as any_part};
 
-use batch_eval::FlaggedLanes;
+use batch_eval::{FlaggedLanes, LaneItems};
 use job_routes::SegmentEnd;
 use lambda_values::Env;
-use prefix_walks::ItemPiece;
-use trace::{End, Item, NoMemory, SourceItems};
+use trace::{End, Item, NoMemory};
 
 /// The end of a segment, its number as a stage, and the values of the job's names.
 #[derive(Clone, Copy)]
 pub(crate) struct LastStage<'s, 'e> {
     pub(crate) end: &'s SegmentEnd,
     pub(crate) number: u32,
-    pub(crate) env: &'e Env,
+    pub(crate) env: &'e Env<'e>,
 }
 
 /// What a piece gives to an end of one kind: it takes items in order, and the parts of pieces side by side merge.
@@ -46,29 +45,31 @@ pub(crate) trait EndPart: Drop + Sized {
         ensures kind { may_search (as_part self.new) ≡ may_search (as_part self.old) }
         ensures keeps { keeps_items (as_part self.new) ≡ keeps_items (as_part self.old) }
     {
-        let one = ItemPiece { items: &[item] };
-        self.push_all(last, &one, &[item.value], &mut [])
+        let one = LaneItems {
+            start: None,
+            places: &[item.origin],
+            values: &[item.value],
+        };
+        self.push_all(last, one, &mut [])
     }
 
-    /// Adds the items of a source, which have these values, after the others.
+    /// Adds items after the others.
     ///
     /// The test of a match goes over all values first, as far as the room is enough for it. If the
     /// allocation fails, the part stays as it was. Without items it takes no memory.
-    fn push_all<I: SourceItems>(
+    fn push_all(
         &mut self,
         last: LastStage<'_, '_>,
-        source: &I,
-        values: &[i64],
+        lanes: LaneItems<'_>,
         room: &mut [i64],
     ) -> Result<(), NoMemory>
         requires going { is_settled (as_part self.old) ≡ false }
-        requires values { map (λ x. x.value) (I.items source.now) ≡ values.now }
         ensures ok { OnOk result ((t : Trace)
             → EndsFor (end_in last.entry.end.now) last.entry.number last.entry.env.now (as_part self.old) t
             → EndsFor (end_in last.entry.end.now) last.entry.number last.entry.env.now (as_part self.new)
-            (append t (trace (I.items source.now) end.Done))) }
+            (append t (trace (laid_items lanes.entry.start lanes.entry.places.now lanes.entry.values.now) end.Done))) }
         ensures err { OnErr result (self.new ≡ self.old) }
-        ensures refused { OnErr result (0 < length (I.items source.now)) }
+        ensures refused { OnErr result (0 < length lanes.entry.values.now) }
         ensures memory { OnErr result (keeps_items (as_part self.old) ≡ true) }
         ensures kind { may_search (as_part self.new) ≡ may_search (as_part self.old) }
         ensures keeps { keeps_items (as_part self.new) ≡ keeps_items (as_part self.old) };

@@ -3,8 +3,9 @@
 ghost use Rattle.job_plan.specs.declared.part.Part.TheVariants as part;
 
 use crate::end_part::{EndPart, LastStage};
+use batch_eval::LaneItems;
 use reduce_ops::SumPart;
-use trace::{End, Item, NoMemory, SourceItems};
+use trace::{End, Item, NoMemory};
 
 impl EndPart for SumPart {
     ghost as_part = { part.Exact };
@@ -14,14 +15,13 @@ impl EndPart for SumPart {
         Ok(())
     }
 
-    fn push_all<I: SourceItems>(
+    fn push_all(
         &mut self,
         last: LastStage<'_, '_>,
-        source: &I,
-        values: &[i64],
+        lanes: LaneItems<'_>,
         _room: &mut [i64],
     ) -> Result<(), NoMemory> {
-        SumPart::push_all(self, last.number, source, values);
+        SumPart::push_all(self, last.number, &lanes, lanes.values);
         Ok(())
     }
 

@@ -4,9 +4,10 @@ ghost use Rattle.job_plan.specs.declared.part.Part.TheVariants as part;
 
 use crate::end_part::{EndPart, LastStage};
 use crate::fronts::undecided;
+use batch_eval::LaneItems;
 use find_ops::FindPart;
 use job_routes::SegmentEnd;
-use trace::{End, Item, NoMemory, SourceItems};
+use trace::{End, Item, NoMemory};
 
 impl EndPart for FindPart {
     ghost as_part = { part.Find };
@@ -18,16 +19,15 @@ impl EndPart for FindPart {
         Ok(())
     }
 
-    fn push_all<I: SourceItems>(
+    fn push_all(
         &mut self,
         last: LastStage<'_, '_>,
-        source: &I,
-        values: &[i64],
+        lanes: LaneItems<'_>,
         room: &mut [i64],
     ) -> Result<(), NoMemory> {
         if let SegmentEnd::Find(find) = last.end {
-            let first = undecided(find, last.env, values, room);
-            *self = self.look_after(find, last.number, last.env, source, first);
+            let first = undecided(find, last.env, lanes, room);
+            *self = self.look_after(find, last.number, last.env, &lanes, first);
         }
         Ok(())
     }

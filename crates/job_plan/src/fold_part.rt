@@ -3,7 +3,7 @@
 ghost use Rattle.std.specs.Prelude.{◌≡◌, ◌≤◌, ℤ, Bool, true, false, List, [], ◌∷◌, length, map, Option};
 ghost use Rattle.trace.specs.Trace.{Trace, trace, nothing, append};
 ghost use Rattle.trace.specs.declared.item.End.TheVariants as end;
-ghost use Rattle.trace.specs.declared.item.Item.{Item as item};
+ghost use Rattle.lambda_values.specs.declared.item.Item.{Item as item};
 ghost use Rattle.reduce_ops.specs.declared.op.Op.{Op};
 ghost use Rattle.job_plan.specs.Parts.{IsFold};
 ghost use Rattle.prefix_walks.specs.Batches.{counted_as};
@@ -12,12 +12,12 @@ ghost use Rattle.job_meaning.specs.Walks.{unless_fault};
 ghost use Rattle.job_plan.specs.declared.part.Part.TheVariants as part;
 
 use crate::end_part::{EndPart, LastStage, is_fault};
-use batch_eval::FlaggedLanes;
+use batch_eval::{FlaggedLanes, LaneItems};
 use job_meaning::Answer;
 use job_routes::Fold;
 use prefix_walks::{folded, folded_flagged};
 use reduce_ops::Partial;
-use trace::{End, Item, NoMemory, SourceItems};
+use trace::{End, Item, NoMemory};
 
 /// The fold of a piece.
 #[derive(Clone, Copy)]
@@ -65,14 +65,13 @@ impl EndPart for FoldPart {
         Ok(())
     }
 
-    fn push_all<I: SourceItems>(
+    fn push_all(
         &mut self,
         _last: LastStage<'_, '_>,
-        _source: &I,
-        values: &[i64],
+        lanes: LaneItems<'_>,
         _room: &mut [i64],
     ) -> Result<(), NoMemory> {
-        let right = folded(self.partial.op(), self.counts, values);
+        let right = folded(self.partial.op(), self.counts, lanes.values);
         self.partial = self.partial.merge(right);
         Ok(())
     }

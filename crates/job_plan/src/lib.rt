@@ -18,6 +18,7 @@ mod find_end;
 mod fold_part;
 mod found;
 mod fronts;
+mod laws;
 mod leaves;
 mod lent_arrays;
 mod lent_part;
@@ -40,6 +41,7 @@ mod walks;
 
 pub use array_part::ArrayPart;
 pub use fold_part::FoldPart;
+pub use laws::routes_answer_as_their_jobs;
 pub use leaves::{leaf_until, unwalked};
 pub use part::Part;
 pub use plan::{JobPlan, Named, Plan};

@@ -3,12 +3,12 @@
 
 ghost use Rattle.std.specs.Prelude.{◌≡◌, ◌-◌, ◌≤◌, ℕ, List, [], drop, length, take, ⊤, ◌++◌, OnOk};
 ghost use Rattle.batch_eval.specs.Batches.{laid_items};
-ghost use Rattle.lambda_values.specs.Earlier.{Numbers};
+ghost use Rattle.lambda_values.specs.Earlier.{Numbers, nothing_named};
 ghost use Rattle.trace.specs.Sinks.{IsFed, flow_after};
 ghost use Rattle.trace.specs.Trace.{Trace, append, trace};
 ghost use Rattle.trace.specs.declared.feeding.Fed.TheVariants as fed;
 ghost use Rattle.trace.specs.declared.item.End.TheVariants as end;
-ghost use Rattle.trace.specs.declared.item.Item.{Item as item};
+ghost use Rattle.lambda_values.specs.declared.item.Item.{Item as item};
 ghost use Rattle.slice_ops.specs.Rests.{rest_of};
 ghost use Rattle.slice_ops.specs.Slices.{AbstractSlice, limit, sliced};
 ghost use Rattle.batch_eval.specs.Pipelines.{piped};
@@ -41,7 +41,7 @@ impl LinkBrand for Brand {
 
     ghost next = { record { first = 0; stages = []; ending = collecting } };
 
-    ghost env = { [] };
+    ghost env = { nothing_named };
 }
 
 /// Whether items go on from a slice.
@@ -153,7 +153,7 @@ fn cut_of<'p>(
         (sliced (rest_of result.rest) junction.entry.stage junction.entry.next.env.now later) }
 {
     let Junction { stage, next } = junction;
-    let front = tested(&rest, next.env, lanes.values, room);
+    let front = tested(&rest, next.env, lanes, room);
     rest.cut(stage, next.env, &lanes, front)
 }
 

@@ -1,7 +1,7 @@
 //! A sink that leaves a walk which no longer matters, in the middle of inner streams too.
 
 ghost use Rattle.std.specs.Prelude.{◌≡◌, ◌≤◌, ℕ, Bool, true, false, List};
-ghost use Rattle.trace.specs.declared.item.Item.{Item as item};
+ghost use Rattle.lambda_values.specs.declared.item.Item.{Item as item};
 ghost use Rattle.job_plan.specs.Stretches.{HasLooked, IsDecided, flow_unless};
 
 use batch_eval::{BatchSink, FlaggedLanes, LaneItems};

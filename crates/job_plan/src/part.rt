@@ -6,7 +6,7 @@ ghost use Rattle.std.specs.Prelude.{IfErr, IfNone, IfSome, OnOk, OnErr, if◌the
 ghost use Rattle.lambda_values.specs.Earlier.{Numbers};
 ghost use Rattle.trace.specs.Trace.{Trace, trace, nothing, append};
 ghost use Rattle.trace.specs.declared.item.End.TheVariants as end;
-ghost use Rattle.trace.specs.declared.item.Item.{Item as item};
+ghost use Rattle.lambda_values.specs.declared.item.Item.{Item as item};
 ghost use Rattle.job_plan.specs.Parts.{end_fault, fold_fault, EndsFor, StandsFor, end_keeps_items};
 ghost use Rattle.job_routes.specs.Legs.{end_in, number_after, AbstractEnd, AbstractSegment, outcome_of};
 ghost use Rattle.job_plan.specs.Parts.{is_fault, is_running, is_settled, keeps_items, may_search};
@@ -16,14 +16,14 @@ use crate::array_part::ArrayPart;
 use crate::end_part::{EndPart, LastStage};
 use crate::fold_part::FoldPart;
 use crate::found::{answer_of, exact_answer};
-use batch_eval::FlaggedLanes;
+use batch_eval::{FlaggedLanes, LaneItems};
 use find_ops::FindPart;
 use job_routes::{Outcome, Segment, SegmentEnd};
 use lambda_values::Env;
 use prefix_walks::PrefixPart;
 use reduce_ops::SumPart;
 use std::alloc::Global;
-use trace::{End, Fault, Item, NoMemory, SourceItems};
+use trace::{End, Fault, Item, NoMemory};
 
 /// What a piece of a segment's source gives to the end of the segment.
 ///
@@ -175,14 +175,13 @@ impl<'a> EndPart for Part<'a> {
         of_any_kind!(self, part => EndPart::push(part, last, item))
     }
 
-    fn push_all<I: SourceItems>(
+    fn push_all(
         &mut self,
         last: LastStage<'_, '_>,
-        source: &I,
-        values: &[i64],
+        lanes: LaneItems<'_>,
         room: &mut [i64],
     ) -> Result<(), NoMemory> {
-        of_any_kind!(self, part => EndPart::push_all(part, last, source, values, room))
+        of_any_kind!(self, part => EndPart::push_all(part, last, lanes, room))
     }
 
     fn push_flagged(&mut self, lanes: FlaggedLanes<'_>) -> bool {

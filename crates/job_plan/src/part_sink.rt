@@ -3,10 +3,10 @@
 ghost use Rattle.std.specs.Prelude.{◌≡◌, ℕ, List, [], false, true, OnErr};
 ghost use Rattle.batch_eval.specs.Batches.{laid_items};
 ghost use Rattle.trace.specs.Trace.{trace};
-ghost use Rattle.lambda_values.specs.Earlier.{Numbers};
+ghost use Rattle.lambda_values.specs.Earlier.{Numbers, nothing_named};
 ghost use Rattle.trace.specs.Sinks.{IsFed, flow_after};
 ghost use Rattle.trace.specs.declared.item.End.TheVariants as end;
-ghost use Rattle.trace.specs.declared.item.Item.{Item as item};
+ghost use Rattle.lambda_values.specs.declared.item.Item.{Item as item};
 ghost use Rattle.job_plan.specs.Arrays.{array};
 ghost use Rattle.job_plan.specs.Parts.{HasTaken, flow_of, is_settled, keeps_items};
 ghost use Rattle.job_routes.specs.Legs.{end_in};
@@ -39,7 +39,7 @@ impl EndBrand for Brand {
 
     ghost stage = { 0 };
 
-    ghost env = { [] };
+    ghost env = { nothing_named };
 
     ghost begun = { kept.Array (array [] end.Done) };
 }
@@ -110,7 +110,7 @@ fn accept_all(
     if lanes.values.is_empty() {
         return Ok(Fed::More);
     }
-    part.push_all(last, &lanes, lanes.values, room)?;
+    part.push_all(last, lanes, room)?;
     if part.is_settled() {
         return Ok(Fed::Enough);
     }

@@ -1,10 +1,10 @@
 //! The routes of jobs: what a run walks.
 
-ghost use Rattle.std.specs.Prelude.{◌≡◌, IfOk, length};
+ghost use Rattle.std.specs.Prelude.{◌≡◌, [], IfOk, length};
 ghost use Rattle.job_language.specs.Jobs.{job_of, jobs_of, names_of};
 ghost use Rattle.job_meaning.specs.FileAnswers.{meaning_of};
 ghost use Rattle.job_meaning.specs.Walks.{instead_of_fault};
-ghost use Rattle.job_plan.specs.Plans.{IsRoute, plan_in, plan_names, planned_meaning, plans_in};
+ghost use Rattle.job_plan.specs.Plans.{AreRoutes, IsRoute, plan_in, plan_names, planned_meaning, plans_in};
 ghost use Rattle.job_routes.specs.Legs.{leg_in, leg_at};
 
 use crate::lent_arrays::lent_arrays;
@@ -15,6 +15,7 @@ use job_meaning::Answer;
 use job_routes::{Fallback, Leg, fallback_of, legs_of};
 use std::alloc::Global;
 use stream_tokens::Bytes;
+use tables::Columns;
 use trace::NoMemory;
 
 /// An earlier job that a job names.
@@ -42,6 +43,8 @@ pub struct JobPlan<'c> {
     pub last: Leg,
     /// What the job gives after a fault, if anything.
     pub fallback: Option<Fallback>,
+    /// The columns whose rows the items are, if lambdas may have cells of them.
+    pub table: Option<&'c Columns>,
 }
 
 /// The routes of the jobs of a file, in file order.
@@ -64,6 +67,8 @@ impl<'c> Plan<'c> {
     /// The jobs are moved; after a refused allocation they are dropped. Takes time and memory for each stage, and each
     /// name in a job is compared with the names of the jobs before.
     pub fn of(alloc: Global, jobs: Vec<Job<'c>>) -> Result<Plan<'c>, NoMemory>
+        ensures routes { IfOk result (λ plan.
+            AreRoutes [] (plans_in plan.jobs.items) (jobs_of jobs.entry.items)) }
         ensures meaning { IfOk result (λ plan.
             planned_meaning (plans_in plan.jobs.items) ≡ meaning_of (jobs_of jobs.entry.items)) }
         ensures names { IfOk result (λ plan. plan_names plan.jobs.items ≡ names_of (jobs_of jobs.entry.items)) }
@@ -90,6 +95,7 @@ impl<'c> JobPlan<'c> {
             stages,
             terminal,
             on_fault,
+            table,
         } = job;
         let fallback = fallback_of(&terminal, on_fault);
         let (scans, last) = legs_of(alloc, stages, terminal)?;
@@ -103,6 +109,7 @@ impl<'c> JobPlan<'c> {
             scans,
             last,
             fallback,
+            table,
         })
     }
 

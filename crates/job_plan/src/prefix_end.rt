@@ -3,20 +3,20 @@
 ghost use Rattle.job_plan.specs.declared.part.Part.TheVariants as part;
 
 use crate::end_part::{EndPart, LastStage, is_fault};
+use batch_eval::LaneItems;
 use prefix_walks::PrefixPart;
-use trace::{End, NoMemory, SourceItems};
+use trace::{End, NoMemory};
 
 impl<'a> EndPart for PrefixPart<'a> {
     ghost as_part = { part.Prefix };
 
-    fn push_all<I: SourceItems>(
+    fn push_all(
         &mut self,
         _last: LastStage<'_, '_>,
-        source: &I,
-        values: &[i64],
+        lanes: LaneItems<'_>,
         _room: &mut [i64],
     ) -> Result<(), NoMemory> {
-        PrefixPart::push_all(self, source, values)
+        PrefixPart::push_all(self, &lanes, lanes.values)
     }
 
     fn end_with(&mut self, ending: End) {

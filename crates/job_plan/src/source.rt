@@ -4,7 +4,7 @@ ghost use Rattle.std.specs.Prelude.{◌≡◌, ◌+◌, ◌<◌, ◌≤◌, ◌^
 ghost use Rattle.trace.specs.Cover.{placed};
 ghost use Rattle.trace.specs.Sinks.{IsFed, flow_after};
 ghost use Rattle.trace.specs.Trace.{trace};
-ghost use Rattle.trace.specs.declared.item.Item.{Item as item};
+ghost use Rattle.lambda_values.specs.declared.item.Item.{Item as item};
 ghost use Rattle.trace.specs.declared.item.End.TheVariants as end;
 ghost use Rattle.batch_eval.specs.Pipelines.{piped};
 ghost use Rattle.job_language.specs.Jobs.{sources_of};
@@ -69,7 +69,7 @@ pub struct Source<'g, 'a, 'c> {
 #[derive(Clone, Copy)]
 pub struct Walked<'g, 'a, 'c, 'e> {
     pub source: Source<'g, 'a, 'c>,
-    pub env: &'e Env,
+    pub env: &'e Env<'e>,
 }
 
 impl<'g, 'a, 'c> Source<'g, 'a, 'c> {

@@ -6,7 +6,7 @@ use Rattle.lambda_values.specs.Term.{Long, parameter}
 use Rattle.lambda_values.specs.Value.{long_value}
 use Rattle.lambda_values.specs.declared.fault.FaultKind.{FaultKind}
 use Rattle.trace.specs.declared.item.Fault.{Fault}
-use Rattle.trace.specs.declared.item.Item.{Item}
+use Rattle.lambda_values.specs.declared.item.Item.{Item}
 use Rattle.trace.specs.declared.item.End.{End}
 use Rattle.trace.specs.declared.item.End.TheVariants as end
 use Rattle.trace.specs.Stages.{AbstractStage, map, image, pipe, through}
@@ -49,7 +49,7 @@ pub no_maps : AreMaps []
 no_maps m env x = (Ok x, refl)
 
 pub more_maps : (e : Long) (gs : List AbstractStage) → AreMaps gs → AreMaps (map e ∷ gs)
-more_maps e gs h m env x = by (long_value e x.value env)
+more_maps e gs h m env x = by (long_value e x env)
   where
     by : (r : Result ℤ FaultKind) → (made : Result Item Fault) × (pipe (suc m) gs env (append (image m x r) nothing) ≡ one_or made)
     by (Ok v) = h (suc m) env (record { origin = x.origin; value = v })

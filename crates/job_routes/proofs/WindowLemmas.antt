@@ -5,7 +5,7 @@ use Rattle.std.proofs.lemmas.List.{take_all}
 use Rattle.lambda_values.specs.Earlier.{Numbers}
 use Rattle.trace.specs.Cover.{placed, too_long}
 use Rattle.trace.specs.Trace.{Trace, trace}
-use Rattle.trace.specs.declared.item.Item.{Item}
+use Rattle.lambda_values.specs.declared.item.Item.{Item}
 use Rattle.trace.specs.declared.item.End.{End}
 use Rattle.trace.specs.declared.item.End.TheVariants as end
 use Rattle.reduce_ops.specs.Operators.{value_of}

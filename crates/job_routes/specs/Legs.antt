@@ -1,19 +1,20 @@
 -- Design: the legs of a job.
-use Rattle.std.specs.Prelude.{ℕ, zero, suc, ℤ, pos, Bool, true, false, ◌+◌, List, [], ◌∷◌, length, map as each_of, Option, Some, None}
+use Rattle.std.specs.Prelude.{ℕ, zero, suc, ℤ, pos, Bool, true, false, ◌+◌, List, [], ◌∷◌, length, map as each_of, Option, Some, None, is_some}
 use Rattle.lambda_values.specs.Earlier.{Numbers}
-use Rattle.trace.specs.declared.item.Item.{Item}
+use Rattle.lambda_values.specs.Term.{Truth}
+use Rattle.lambda_values.specs.declared.item.Item.{Item}
 use Rattle.trace.specs.Stages.{AbstractStage, pipe, stages_of}
 use Rattle.trace.specs.Trace.{Trace, nothing, trace}
 use Rattle.reduce_ops.specs.declared.op.Op.{Op}
 use Rattle.reduce_ops.specs.declared.op.Op.TheVariants as op
 use Rattle.reduce_ops.specs.ExactSums.{exact_sum as exactly_summed}
 use Rattle.reduce_ops.specs.Folds.{fold_from, fold_items}
-use Rattle.reduce_ops.specs.Operators.{value_of}
+use Rattle.reduce_ops.specs.Operators.{identity_of, value_of}
 use Rattle.slice_ops.specs.Slices.{AbstractSlice, slice_of, sliced}
 use Rattle.prefix_scan.specs.Prefixes.{Range, prefixed}
 use Rattle.prefix_walks.specs.Batches.{counted_as}
 use Rattle.prefix_walks.specs.Pieces.{elements}
-use Rattle.find_ops.specs.Finds.{Find, find_answer, find_of}
+use Rattle.find_ops.specs.Finds.{Find, any_match, all_match, find_answer, find_of, first as find_first, none_match}
 use Rattle.job_language.specs.Jobs.{AbstractTerminal, sum, count, min, max, to_array, reduce, reduce_from, find, exact_sum}
 use Rattle.job_meaning.specs.declared.answer.Answer.{Answer}
 use Rattle.job_meaning.specs.declared.answer.Answer.TheVariants as answer
@@ -163,6 +164,28 @@ end_in (ends.Find d) = finding (find_of d)
 end_in ends.Array = collecting
 end_in ends.ExactSum = exactly
 end_in (ends.Prefix p) = scanning p.op p.range
+
+-- the test that an end asks of items: a match has one
+abbrev pub test_of : AbstractEnd → Option Truth
+test_of (folding f start counts) = None
+test_of (finding find_first) = None
+test_of (finding (any_match p)) = Some p
+test_of (finding (all_match p)) = Some p
+test_of (finding (none_match p)) = Some p
+test_of collecting = None
+test_of exactly = None
+test_of (scanning f r) = None
+
+-- whether an end takes lanes with their flags: a fold whose operator has an identity, and `findFirst`
+abbrev pub takes_flags : AbstractEnd → Bool
+takes_flags (folding f start counts) = is_some (identity_of f)
+takes_flags (finding find_first) = true
+takes_flags (finding (any_match p)) = false
+takes_flags (finding (all_match p)) = false
+takes_flags (finding (none_match p)) = false
+takes_flags collecting = false
+takes_flags exactly = false
+takes_flags (scanning f r) = false
 
 -- the number of the stage after stages of the program, and what these make of a walk
 abbrev pub number_after : NumberedStages → ℕ

@@ -3,7 +3,8 @@
 ghost use Rattle.std.specs.Prelude.{◌≡◌, IsTrue, None, false, option_map};
 ghost use Rattle.job_language.specs.Jobs.{terminal_of};
 ghost use Rattle.job_meaning.specs.Walks.{number_as};
-ghost use Rattle.job_routes.specs.Legs.{end_in, end_of, fallback_in, folding};
+ghost use Rattle.job_routes.specs.Legs.{end_in, end_of, fallback_in, folding, takes_flags, test_of};
+ghost use Rattle.lambda_values.specs.Term.{truth_of};
 
 use crate::fallback::Fallback;
 use find_ops::FindTerminal;
@@ -56,7 +57,9 @@ impl SegmentEnd {
     }
 
     /// The test that a match asks of items while it takes them.
-    pub fn test(&self) -> Option<&BoolExpr> {
+    pub fn test(&self) -> Option<&BoolExpr>
+        ensures { option_map (λ test. truth_of test.now) result ≡ test_of (end_in self.now) }
+    {
         match self {
             SegmentEnd::Find(
                 FindTerminal::AnyMatch(test)
@@ -69,7 +72,9 @@ impl SegmentEnd {
 
     /// Whether the items of lanes with flags are to be given with their flags: to a fold, which then moves no value,
     /// and to `findFirst`, which the first flag decides. Either way an end takes equal items.
-    pub fn takes_flags(&self) -> bool {
+    pub fn takes_flags(&self) -> bool
+        ensures { result ≡ takes_flags (end_in self.now) }
+    {
         match self {
             SegmentEnd::Fold(fold) => fold.op.identity().is_some(),
             SegmentEnd::Find(find) => matches!(find, FindTerminal::First),

@@ -53,7 +53,7 @@ impl NumberedStages {
     }
 
     /// The stages, with these values of the job's names.
-    pub fn pipeline<'a>(&'a self, env: &'a Env) -> Pipeline<'a>
+    pub fn pipeline<'a>(&'a self, env: &'a Env<'a>) -> Pipeline<'a>
         ensures walk { (t : Trace) → piped result t ≡ walk_through self.now env.now t }
         ensures env { result.env.now ≡ env.now }
     {

@@ -148,7 +148,6 @@ pub trait JobSegments {
     ) -> Result<NextSource<Self::Source>, NoMemory>
         requires job { job < run.jobs }
         requires segment { segment < run.last job }
-        requires next { segment + 1 < 2 ^ 64 }
         requires given { run.is_given job given.now }
         requires part { run.stands_for job segment 0 (run.size job segment) part }
         ensures source { IfOk result (λ next. run.is_source job (segment + 1) next.source) }

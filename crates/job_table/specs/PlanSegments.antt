@@ -39,6 +39,7 @@ no_plan = record {
   sources = [];
   legs = record { scans = []; last = record { from = 0; to = None; links = []; last = record { first = 0; stages = []; ending = collecting } } };
   fallback = None;
+  table = [];
 }
 
 -- the job with this number
@@ -57,12 +58,12 @@ answers_before plans job = take job (planned_meaning plans)
 abbrev pub named_at : List AbstractPlan → ℕ → List EarlierJob
 named_at plans job = jobs_at (answers_before plans job) (plan_at plans job).named
 
--- what a run walks of the job with this number: with the arrays and the numbers of the jobs that it names
+-- what a run walks of the job with this number: with the arrays and the numbers of the jobs that it names, and its table
 abbrev pub chain_at : List AbstractPlan → ℕ → AbstractChain
 chain_at plans job = record {
   legs = (plan_at plans job).legs;
   source = source_walk (all_put_in (named_at plans job) (plan_at plans job).sources);
-  numbers = numbers_of (named_at plans job);
+  numbers = record { earlier = numbers_of (named_at plans job); table = (plan_at plans job).table };
 }
 
 -- the number of the leg that gives the answer
@@ -143,5 +144,5 @@ run_of plans = record {
   is_given = IsTaken plans;
   one_source = λ job segment walk. Coded-set (chunks.the_row).coded walk (given_at (chain_at plans job) segment);
   one_answer = λ job a. Coded-set (answers.the_row).coded a (answer_of plans job);
-  one_given = λ job env. ×_prop (hlevel props) (Coded-set (envs.the_row).coded env (chain_at plans job).numbers);
+  one_given = λ job env. ×_prop (hlevel props) (Coded-set (envs.the_row (record { mir = static; lft = [] })).coded env (chain_at plans job).numbers);
 }

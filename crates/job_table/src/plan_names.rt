@@ -5,6 +5,7 @@ ghost use Rattle.std.specs.Option.{option_map};
 ghost use Rattle.job_language.specs.Jobs.{source_of, sources_of, values};
 ghost use Rattle.job_meaning.specs.FileAnswers.{EarlierJob, all_put_in, array_named, first_unusable, numbered};
 ghost use Rattle.job_meaning.specs.FileAnswers.{numbers_of, put_in};
+ghost use Rattle.lambda_values.specs.Earlier.{table_in};
 ghost use Rattle.job_meaning.specs.Walks.{array_of, number_of};
 ghost use Rattle.job_plan.specs.Plans.{job_at, jobs_at, plan_in, plans_in};
 ghost use Rattle.job_meaning.specs.declared.answer.Answer.{Answer as answers};
@@ -19,6 +20,7 @@ use job_runner::{EarlierAnswers, NoMemory};
 use lambda_values::Env;
 use std::alloc::Global;
 use stream_tokens::Bytes;
+use tables::Columns;
 
 /// The different jobs among those that a job names, and that come before it.
 pub(crate) fn different(
@@ -50,7 +52,9 @@ fn push_number(
     answer: &Answer,
     numbers: &mut Env,
 ) -> Result<(), NoMemory>
-    ensures { IfOk result (λ _. numbers.new ≡ numbers.old ++ numbered name.now (number_of answer.now)) }
+    ensures number { IfOk result (λ _. numbers.new.earlier
+        ≡ numbers.old.earlier ++ numbered name.now (number_of answer.now)) }
+    ensures table { IfOk result (λ _. numbers.new.table ≡ numbers.old.table) }
 {
     let Some(number) = answer.number() else {
         return Ok(());
@@ -111,8 +115,9 @@ impl<'a, 'c, P: PlanBrand> PlanJobs<'a, 'c, P> {
             (job_at name.now (slice_get (answers_before (plans_in P.jobs) job) name.now.job) ++ later)
             ≡ (if usable then first_unusable later else Some name.now.job)) }
         ensures number { IfOk result (λ usable. usable ≡ true → (later : List EarlierJob)
-            → numbers.new ++ numbers_of later ≡ numbers.old ++ numbers_of
+            → numbers.new.earlier ++ numbers_of later ≡ numbers.old.earlier ++ numbers_of
             (job_at name.now (slice_get (answers_before (plans_in P.jobs) job) name.now.job) ++ later)) }
+        ensures table { IfOk result (λ _. numbers.new.table ≡ numbers.old.table) }
     {
         let Some(answer) = self.named_answer(job, name.job, earlier)? else {
             return Ok(true);
@@ -131,17 +136,19 @@ impl<'a, 'c, P: PlanBrand> PlanJobs<'a, 'c, P> {
         alloc: Global,
         job: usize,
         named: &[Named],
+        table: Option<&'c Columns>,
         earlier: &E,
-    ) -> Result<Result<Env, usize>, NoMemory>
+    ) -> Result<Result<Env<'c>, usize>, NoMemory>
         requires job { job < length (plans_in P.jobs) }
         requires earlier { (j : ℕ) (a : answers) → E.is_answer j a → a ≡ answer_of (plans_in P.jobs) j }
         ensures usable { IfOk result (λ found. IfOk found (λ env.
             (first_unusable (jobs_at (answers_before (plans_in P.jobs) job) named.now) ≡ None)
-            × (env ≡ numbers_of (jobs_at (answers_before (plans_in P.jobs) job) named.now)))) }
+            × (env.earlier ≡ numbers_of (jobs_at (answers_before (plans_in P.jobs) job) named.now))
+            × (env.table ≡ table_in table.entry))) }
         ensures unusable { IfOk result (λ found. IfErr found (λ place.
             first_unusable (jobs_at (answers_before (plans_in P.jobs) job) named.now) ≡ Some place)) }
     {
-        let mut numbers = Env::empty(alloc);
+        let mut numbers = Env::over(alloc, table);
         for name in named {
             if !self.take_number(alloc, job, name, earlier, &mut numbers)? {
                 return Ok(Err(name.job));

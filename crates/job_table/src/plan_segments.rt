@@ -30,7 +30,7 @@ impl<'a, 'c, P: PlanBrand> JobSegments for PlanJobs<'a, 'c, P> {
 
     type Answer = Answer;
 
-    type Given = Env;
+    type Given = Env<'c>;
 
     type Scratch = Registers;
 
@@ -60,9 +60,9 @@ impl<'a, 'c, P: PlanBrand> JobSegments for PlanJobs<'a, 'c, P> {
         alloc: Global,
         job: usize,
         earlier: &E,
-    ) -> Result<Begun<Env, Answer>, NoMemory> {
+    ) -> Result<Begun<Env<'c>, Answer>, NoMemory> {
         let plan = self.job(job);
-        match self.numbers(alloc, job, &plan.named, earlier)? {
+        match self.numbers(alloc, job, &plan.named, plan.table, earlier)? {
             Ok(given) => {
                 let size = self.first_size(alloc, job, plan, earlier)?;
                 Ok(Begun::Walk { given, size })
@@ -106,7 +106,7 @@ impl<'a, 'c, P: PlanBrand> JobSegments for PlanJobs<'a, 'c, P> {
         &self,
         alloc: Global,
         piece: Piece,
-        input: SegmentInput<'_, '_, GivenWalk<'a>, Env, E>,
+        input: SegmentInput<'_, '_, GivenWalk<'a>, Env<'c>, E>,
         registers: &mut Registers,
         stop: &mut W,
     ) -> Result<Part<'a>, NoMemory>
@@ -138,6 +138,8 @@ impl<'a, 'c, P: PlanBrand> JobSegments for PlanJobs<'a, 'c, P> {
         part: Part<'a>,
         given: &Env,
     ) -> Result<NextSource<GivenWalk<'a>>, NoMemory> {
+        let last = self.last_segment(job);
+        prove!(segment < last);
         let leg = self.job(job).leg(segment + 1);
         let source = next_walk(alloc, part, given)?;
         let size = positions(leg, Source::of_given(&source));
@@ -149,7 +151,7 @@ impl<'a, 'c, P: PlanBrand> JobSegments for PlanJobs<'a, 'c, P> {
         alloc: Global,
         job: usize,
         part: Part<'a>,
-        input: SegmentInput<'_, '_, GivenWalk<'a>, Env, E>,
+        input: SegmentInput<'_, '_, GivenWalk<'a>, Env<'c>, E>,
         registers: &mut Registers,
     ) -> Result<Answer, NoMemory>
         requires job { job < length (plans_in P.jobs) }

@@ -1,5 +1,5 @@
 //! The jobs of a plan, and their run.
-ghost use Rattle.std.specs.Prelude.{◌≡◌, ◌<◌, List, [], length, IfOk};
+ghost use Rattle.std.specs.Prelude.{◌≡◌, ◌<◌, List, [], codes, length, IfOk, Some};
 ghost use Rattle.job_plan.specs.declared.plan.JobPlan.{JobPlan as job_plan};
 ghost use Rattle.job_plan.specs.Plans.{plan_in, planned_meaning, plans_in};
 ghost use Rattle.job_table.specs.PlanSegments.{one_plan, plan_at};
@@ -9,9 +9,12 @@ use job_plan::{JobPlan, Plan};
 use job_runner::{NoMemory, run_all};
 use run_settings::Settings;
 use std::alloc::Global;
+use std::fmt;
+use std::fmt::{Display, Formatter, Write};
 use std::marker::{Brand, PhantomData};
 use std::sync::Wait;
 use std::thread::Threads;
+use thiserror::Error;
 use worker_pool::Gate;
 
 /// The jobs that a run is over, as they are kept. Whoever makes `PlanJobs` picks them: `run_jobs`, or a caller with a
@@ -92,10 +95,20 @@ fn run_as<P: PlanBrand + Send + Sync, H: Threads + Wait + Sync, G: Gate + Sync>(
 }
 
 /// Why a run has no answers. Number 1.
-#[derive(Clone, Copy, Debug, PartialEq, Eq)]
+#[derive(Clone, Copy, Debug, PartialEq, Eq, Error)]
 pub enum RunFault {
     /// An allocation failed.
     NoMemory,
+}
+
+impl Display for RunFault {
+    ghost output = { λ _. Some (codes "out of memory") };
+
+    fn fmt<W: Write>(&self, f: &mut Formatter<W>) -> fmt::Result {
+        match self {
+            RunFault::NoMemory => f.write_str("out of memory"),
+        }
+    }
 }
 
 /// The answers of the jobs of a plan, in file order, worked out by no more workers than the settings say.

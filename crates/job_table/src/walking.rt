@@ -26,7 +26,7 @@ impl<'a, 'c, P: PlanBrand> PlanJobs<'a, 'c, P> {
         alloc: Global,
         piece: Piece,
         in_order: bool,
-        input: SegmentInput<'_, '_, GivenWalk<'a>, Env, E>,
+        input: SegmentInput<'_, '_, GivenWalk<'a>, Env<'c>, E>,
         registers: &mut Registers,
         stop: &mut W,
     ) -> Result<Part<'a>, NoMemory>

@@ -14,7 +14,7 @@ use Rattle.lambda_expr.specs.Checks.{depth, fit, literals, names_known}
 use Rattle.lambda_expr.specs.Heads.{ALambda, BodyShape, expression, operands, parameters}
 use Rattle.lambda_expr.specs.Lexemes.{Names, lexemes_of, names_in}
 use Rattle.lambda_values.specs.Lambda.{AbstractLambda}
-use Rattle.lambda_expr.specs.Refusals.{Judged, IsRefused, column, lambda_of, streamed, verdict, wanted}
+use Rattle.lambda_expr.specs.Refusals.{Judged, IsRefusedWithin, column, lambda_of, streamed, verdict, wanted}
 use Rattle.lambda_expr.specs.Stops.{StopsAt}
 use Rattle.lambda_expr.specs.StreamChecks.{all_fit, all_known, deepest, numbers, stream_of}
 use Rattle.lambda_values.specs.Streams.{Inner}
@@ -51,23 +51,23 @@ is_verdict w h (operands s es) = either_verdict (not (all_fit es)) _ _ tt (eithe
 is_verdict w h (expression e) = either_verdict (not (fit (literals e))) _ _ tt (either_verdict (nat_lt 64 (depth e)) _ _ tt (either_verdict (not (names_known (parameters w) e)) _ _ tt (wanted_verdict w _ _)))
 
 -- a lambda or a refusal
-abbrev pub HasAnswer : List ℕ → Want → Type 0
-HasAnswer text w = ((t : AbstractLambda) × Judged text w (Ok t)) ⊎ ((f : ReadFault) × (f ≢ fault.NoMemory) × IsRefused text w f)
+abbrev pub HasAnswer : Bool → List ℕ → Want → Type 0
+HasAnswer cells text w = ((t : AbstractLambda) × Judged cells text w (Ok t)) ⊎ ((f : ReadFault) × (f ≢ fault.NoMemory) × IsRefusedWithin cells text w f)
 
-by_verdict : (text : List ℕ) (w : Want) (r : Result AbstractLambda ReadFault) → IsVerdict r → Judged text w r → HasAnswer text w
-by_verdict text w (Ok t) v j = inl (t, j)
-by_verdict text w (Err fault.WrongType) v j = inr (fault.WrongType, (λ e. cc), j)
-by_verdict text w (Err fault.UnknownName) v j = inr (fault.UnknownName, (λ e. cc), j)
-by_verdict text w (Err fault.TooDeep) v j = inr (fault.TooDeep, (λ e. cc), inr j)
-by_verdict text w (Err fault.LiteralTooLarge) v j = inr (fault.LiteralTooLarge, (λ e. cc), j)
-by_verdict text w x v j = absurd v
+by_verdict : (cells : Bool) (text : List ℕ) (w : Want) (r : Result AbstractLambda ReadFault) → IsVerdict r → Judged cells text w r → HasAnswer cells text w
+by_verdict cells text w (Ok t) v j = inl (t, j)
+by_verdict cells text w (Err fault.WrongType) v j = inr (fault.WrongType, (λ e. cc), j)
+by_verdict cells text w (Err fault.UnknownName) v j = inr (fault.UnknownName, (λ e. cc), j)
+by_verdict cells text w (Err fault.TooDeep) v j = inr (fault.TooDeep, (λ e. cc), inr j)
+by_verdict cells text w (Err fault.LiteralTooLarge) v j = inr (fault.LiteralTooLarge, (λ e. cc), j)
+by_verdict cells text w x v j = absurd v
 
-by_words : (text : List ℕ) (ts : List Token) (w : Want) → AreTokensOf ts text → length ts ≤ 4096 → ALambda w (lexemes_of text ts) ⊎ ((n : ℕ) × StopsAt (ALambda w) (lexemes_of text ts) n) → HasAnswer text w
-by_words text ts w cut few (inl l) = by_verdict text w (verdict w (names_in text ts) l.0) (is_verdict w (names_in text ts) l.0) (record { body = l.0; spelled = record { tokens = ts; cut = cut; few = few; lambda = l.1 }; gives = refl })
-by_words text ts w cut few (inr s) = inr (fault.Syntax (column text ts s.0), (λ e. cc), record { tokens = ts; cut = cut; few = few; place = s.0; stops = s.1; here = refl })
+by_words : (cells : Bool) (text : List ℕ) (ts : List Token) (w : Want) → AreTokensOf ts text → length ts ≤ 4096 → ALambda w (lexemes_of cells text ts) ⊎ ((n : ℕ) × StopsAt (ALambda w) (lexemes_of cells text ts) n) → HasAnswer cells text w
+by_words cells text ts w cut few (inl l) = by_verdict cells text w (verdict w (names_in text ts) l.0) (is_verdict w (names_in text ts) l.0) (record { body = l.0; spelled = record { tokens = ts; cut = cut; few = few; lambda = l.1 }; gives = refl })
+by_words cells text ts w cut few (inr s) = inr (fault.Syntax (column text ts s.0), (λ e. cc), record { tokens = ts; cut = cut; few = few; place = s.0; stops = s.1; here = refl })
 
-pub each_text : (text : List ℕ) (ts : List Token) (w : Want) → AreTokensOf ts text → HasAnswer text w
-each_text text ts w cut =
+pub each_text : (cells : Bool) (text : List ℕ) (ts : List Token) (w : Want) → AreTokensOf ts text → HasAnswer cells text w
+each_text cells text ts w cut =
     ⊎_elim (λ (many : 4096 < length ts). inr (fault.TooDeep, (λ e. cc), inl (record { tokens = ts; cut = cut; many = many })))
-    (λ (few : length ts ≤ 4096). by_words text ts w cut few (each_lambda w (lexemes_of text ts)))
+    (λ (few : length ts ≤ 4096). by_words cells text ts w cut few (each_lambda w (lexemes_of cells text ts)))
     (order 4096 (length ts))

@@ -13,6 +13,7 @@ pub mod JudgeLemmas
 pub mod Lambdas
 pub mod Leads
 pub mod LexemeLemmas
+pub mod NoPlaces
 pub mod NumberLaws
 pub mod NumberStops
 pub mod OneAnswer
@@ -21,7 +22,9 @@ pub mod OneStream
 pub mod OperandLemmas
 pub mod ParseLemmas
 pub mod PartLemmas
+pub mod PlacelessCells
 pub mod ReaderStateLemmas
+pub mod SameWords
 pub mod Sequences
 pub mod SourceLemmas
 pub mod StackLemmas

@@ -7,11 +7,11 @@ use Rattle.lambda_expr.specs.declared.step.Opening.TheVariants.{Call}
 use Rattle.lambda_expr.specs.declared.lexeme.Lexeme.{Lexeme}
 use Rattle.lambda_expr.specs.declared.lexeme.Lexeme.TheVariants as word
 use Rattle.lambda_expr.specs.declared.lexeme.Name.{Name}
-use Rattle.lambda_expr.specs.declared.lexeme.Name.TheVariants.{Plain, ClassName, Truth, LowerLong}
-use Rattle.lambda_expr.specs.Grammar.{Shape, number, constant, enclosed, opening, spells, Binds, IsExpression, Expression}
+use Rattle.lambda_expr.specs.declared.lexeme.Name.TheVariants.{Plain, ClassName, Truth, LowerLong, Cell, Row}
+use Rattle.lambda_expr.specs.Grammar.{Shape, number, cell, row, constant, enclosed, opening, spells, Binds, IsExpression, Expression}
 use Rattle.lambda_expr.specs.Signs.{level, is_prefix}
 use Rattle.lambda_expr.specs.Stops.{Begins, StopsAt}
-use Rattle.lambda_expr.specs.Reader.{Frame, opened, signed, left, question, joined, takes, State, wants, has, owns, dots, calls, stuck, when, answers_at, shuts_at, follows, called, read, reads, settled, only, result_of, result_at}
+use Rattle.lambda_expr.specs.Reader.{Frame, opened, signed, left, question, joined, takes, State, wants, has, owns, dots, calls, at_cell, opens_cell, names_cell, at_row, opens_row, stuck, when, answers_at, shuts_at, follows, called, cell_opened, cell_named, cell_closed, row_opened, row_closed, read, reads, settled, only, result_of, result_at}
 use Rattle.lambda_expr.proofs.Frames.{before, wanted, Ordered, after, filled, spells_filled, binds_filled, wanted_high, binds_lower, level_high, Keeps, join_keeps, join_stops, not_two, taken}
 use Rattle.lambda_expr.proofs.Leads.{at_top, reads_back, stuck_begins_none}
 
@@ -22,6 +22,11 @@ Stands ws (has fs e) = (before fs ++ spells e ≡ ws) × Ordered fs × Binds 13 
 Stands ws (owns fs o) = (before fs ++ word.Name (ClassName o) ∷ [] ≡ ws) × Ordered fs
 Stands ws (dots fs o) = (before fs ++ word.Name (ClassName o) ∷ word.Dot ∷ [] ≡ ws) × Ordered fs
 Stands ws (calls fs o i) = (before fs ++ word.Name (ClassName o) ∷ word.Dot ∷ word.Name i ∷ [] ≡ ws) × Ordered fs
+Stands ws (at_cell fs) = (before fs ++ word.Name Cell ∷ [] ≡ ws) × Ordered fs
+Stands ws (opens_cell fs) = (before fs ++ word.Name Cell ∷ word.Open ∷ [] ≡ ws) × Ordered fs
+Stands ws (names_cell fs i) = (before fs ++ word.Name Cell ∷ word.Open ∷ word.Text i ∷ [] ≡ ws) × Ordered fs
+Stands ws (at_row fs) = (before fs ++ word.Name Row ∷ [] ≡ ws) × Ordered fs
+Stands ws (opens_row fs) = (before fs ++ word.Name Row ∷ word.Open ∷ [] ≡ ws) × Ordered fs
 Stands ws stuck = Unit {0}
 
 -- what stands can be completed
@@ -49,6 +54,11 @@ begins_of ws (has fs e) n s = completes ws fs e (spells e) [] s.0 (sym (append-n
 begins_of ws (owns fs o) n s = completes ws fs (some_call o LowerLong) (word.Name (ClassName o) ∷ []) (word.Dot ∷ word.Name LowerLong ∷ word.Open ∷ word.Number 0 ∷ word.Close ∷ []) s.0 refl s.1 tt
 begins_of ws (dots fs o) n s = completes ws fs (some_call o LowerLong) (word.Name (ClassName o) ∷ word.Dot ∷ []) (word.Name LowerLong ∷ word.Open ∷ word.Number 0 ∷ word.Close ∷ []) s.0 refl s.1 tt
 begins_of ws (calls fs o i) n s = completes ws fs (some_call o i) (word.Name (ClassName o) ∷ word.Dot ∷ word.Name i ∷ []) (word.Open ∷ word.Number 0 ∷ word.Close ∷ []) s.0 refl s.1 tt
+begins_of ws (at_cell fs) n s = completes ws fs (cell 0) (word.Name Cell ∷ []) (word.Open ∷ word.Text 0 ∷ word.Close ∷ []) s.0 refl s.1 tt
+begins_of ws (opens_cell fs) n s = completes ws fs (cell 0) (word.Name Cell ∷ word.Open ∷ []) (word.Text 0 ∷ word.Close ∷ []) s.0 refl s.1 tt
+begins_of ws (names_cell fs i) n s = completes ws fs (cell i) (word.Name Cell ∷ word.Open ∷ word.Text i ∷ []) (word.Close ∷ []) s.0 refl s.1 tt
+begins_of ws (at_row fs) n s = completes ws fs row (word.Name Row ∷ []) (word.Open ∷ word.Close ∷ []) s.0 refl s.1 tt
+begins_of ws (opens_row fs) n s = completes ws fs row (word.Name Row ∷ word.Open ∷ []) (word.Close ∷ []) s.0 refl s.1 tt
 begins_of ws stuck n s = absurd (n refl)
 
 when_stands : (ws : List Lexeme) (b : Bool) (s : State) → (b ≡ true → Stands ws s) → Stands ws (when b s)
@@ -106,6 +116,8 @@ started : (ws : List Lexeme) (fs : List Frame) (w : Lexeme) → Stands ws (wants
 started ws fs (word.Name (Plain i)) s = (ap (λ v. v ++ word.Name (Plain i) ∷ []) s.0, s.1, tt)
 started ws fs (word.Name (ClassName o)) s = (ap (λ v. v ++ word.Name (ClassName o) ∷ []) s.0, s.1)
 started ws fs (word.Name (Truth b)) s = (ap (λ v. v ++ word.Name (Truth b) ∷ []) s.0, s.1, tt)
+started ws fs (word.Name Cell) s = (ap (λ v. v ++ word.Name Cell ∷ []) s.0, s.1)
+started ws fs (word.Name Row) s = (ap (λ v. v ++ word.Name Row ∷ []) s.0, s.1)
 started ws fs (word.Number i) s = (ap (λ v. v ++ word.Number i ∷ []) s.0, s.1, tt)
 started ws fs (word.Reference i) s = (ap (λ v. v ++ word.Reference i ∷ []) s.0, s.1, tt)
 started ws fs (word.Sign x) s = when_stands (put ws (word.Sign x)) (is_prefix x) (wants (signed x ∷ fs)) (λ y. (ap (λ v. v ++ word.Sign x ∷ []) s.0, (y, s.1)))
@@ -125,6 +137,26 @@ called_on ws fs o i word.Open s = (more ws (word.Name (ClassName o) ∷ word.Dot
 called_on ws fs Long i p s = followed ws fs (constant i) p (s.0, s.1, tt)
 called_on ws fs y i p s = tt
 
+opened_on : (ws : List Lexeme) (fs : List Frame) (w : Lexeme) → Stands ws (at_cell fs) → Stands (put ws w) (cell_opened fs w)
+opened_on ws fs word.Open s = (more ws (word.Name Cell ∷ []) word.Open fs s.0, s.1)
+opened_on ws fs y s = tt
+
+named_on : (ws : List Lexeme) (fs : List Frame) (w : Lexeme) → Stands ws (opens_cell fs) → Stands (put ws w) (cell_named fs w)
+named_on ws fs (word.Text i) s = (more ws (word.Name Cell ∷ word.Open ∷ []) (word.Text i) fs s.0, s.1)
+named_on ws fs y s = tt
+
+closed_on : (ws : List Lexeme) (fs : List Frame) (i : ℕ) (w : Lexeme) → Stands ws (names_cell fs i) → Stands (put ws w) (cell_closed fs i w)
+closed_on ws fs i word.Close s = (more ws (word.Name Cell ∷ word.Open ∷ word.Text i ∷ []) word.Close fs s.0, s.1, tt)
+closed_on ws fs i y s = tt
+
+row_opened_on : (ws : List Lexeme) (fs : List Frame) (w : Lexeme) → Stands ws (at_row fs) → Stands (put ws w) (row_opened fs w)
+row_opened_on ws fs word.Open s = (more ws (word.Name Row ∷ []) word.Open fs s.0, s.1)
+row_opened_on ws fs y s = tt
+
+row_closed_on : (ws : List Lexeme) (fs : List Frame) (w : Lexeme) → Stands ws (opens_row fs) → Stands (put ws w) (row_closed fs w)
+row_closed_on ws fs word.Close s = (more ws (word.Name Row ∷ word.Open ∷ []) word.Close fs s.0, s.1, tt)
+row_closed_on ws fs y s = tt
+
 -- one more word keeps what stands
 keeps : (ws : List Lexeme) (s : State) (w : Lexeme) → Stands ws s → Stands (put ws w) (read s w)
 keeps ws (wants fs) w s = started ws fs w s
@@ -132,6 +164,11 @@ keeps ws (has fs e) w s = followed ws fs e w s
 keeps ws (owns fs o) w s = owned_on ws fs o w s
 keeps ws (dots fs o) w s = dotted_on ws fs o w s
 keeps ws (calls fs o i) w s = called_on ws fs o i w s
+keeps ws (at_cell fs) w s = opened_on ws fs w s
+keeps ws (opens_cell fs) w s = named_on ws fs w s
+keeps ws (names_cell fs i) w s = closed_on ws fs i w s
+keeps ws (at_row fs) w s = row_opened_on ws fs w s
+keeps ws (opens_row fs) w s = row_closed_on ws fs w s
 keeps ws stuck w s = tt
 
 stands_from : (ws vs : List Lexeme) (s : State) → Stands ws s → Stands (ws ++ vs) (reads s vs)

@@ -7,8 +7,8 @@ use Rattle.lambda_expr.specs.declared.sign.Sign.{Sign}
 use Rattle.lambda_expr.specs.declared.sign.Sign.TheVariants as sign
 use Rattle.lambda_expr.specs.declared.step.Opening.{Opening}
 use Rattle.lambda_expr.specs.declared.step.Opening.TheVariants.{Paren, Call}
-use Rattle.lambda_expr.specs.Grammar.{Shape, name, number, truth, reference, constant, prefix, binary, ternary}
-use Rattle.lambda_expr.specs.Grammar.{enclosed}
+use Rattle.lambda_expr.specs.Grammar.{Shape, name, number, truth, reference, cell, row, constant, prefix, binary}
+use Rattle.lambda_expr.specs.Grammar.{ternary, enclosed}
 use Rattle.lambda_expr.specs.Typing.{constant_of, function_of}
 
 -- whether the numbers of an expression fit; a number by itself is at most 2^63 - 1
@@ -34,6 +34,8 @@ literals (name i) = Fit true
 literals (number n) = Number n
 literals (truth b) = Fit true
 literals (reference i) = Fit true
+literals (cell i) = Fit true
+literals row = Fit true
 literals (constant n) = Fit true
 literals (prefix s a) = signed s (literals a)
 literals (binary s a b) = Fit (fit (literals a) && fit (literals b))
@@ -50,6 +52,8 @@ depth (name i) = 1
 depth (number n) = 1
 depth (truth b) = 1
 depth (reference i) = 1
+depth (cell i) = 1
+depth row = 1
 depth (constant n) = 1
 depth (prefix s a) = suc (depth a)
 depth (binary s a b) = if is_comma s then max (depth a) (depth b) else suc (max (depth a) (depth b))
@@ -67,6 +71,8 @@ names_known n (name i) = nat_lt i.number n
 names_known n (number k) = true
 names_known n (truth b) = true
 names_known n (reference i) = true
+names_known n (cell i) = true
+names_known n row = true
 names_known n (constant c) = is_some (constant_of c)
 names_known n (prefix s a) = names_known n a
 names_known n (binary s a b) = names_known n a && names_known n b

@@ -10,12 +10,13 @@ use Rattle.lambda_expr.specs.declared.parse.Held.{Held}
 use Rattle.lambda_expr.specs.declared.parse.Held.TheVariants as held
 use Rattle.lambda_expr.specs.declared.parse.ParseStop.{ParseStop}
 use Rattle.lambda_expr.specs.declared.parse.ParseStop.TheVariants.{At, NoMemory}
-use Rattle.lambda_expr.specs.Grammar.{Shape, name, number, truth, reference, constant, prefix, binary, ternary}
-use Rattle.lambda_expr.specs.Grammar.{enclosed, postfix, IsExpression}
+use Rattle.lambda_expr.specs.Grammar.{Shape, name, number, truth, reference, cell, row, constant, prefix, binary}
+use Rattle.lambda_expr.specs.Grammar.{ternary, enclosed, postfix, IsExpression}
 use Rattle.lambda_expr.specs.Signs.{level}
 use Rattle.lambda_expr.specs.Stops.{StopsAt}
 use Rattle.lambda_expr.specs.Reader.{Frame, opened, signed, left, question, colon, Top, State, wants, has, owns, dots}
-use Rattle.lambda_expr.specs.Reader.{calls, stuck, settled, result_of}
+use Rattle.lambda_expr.specs.Reader.{calls, at_cell, opens_cell, names_cell, at_row, opens_row, stuck, settled}
+use Rattle.lambda_expr.specs.Reader.{result_of}
 
 abbrev pub reduced : ℕ → Pending → Option ParseStep
 reduced n (pending.Opened o) = None
@@ -39,6 +40,8 @@ apply (step.Name i) vs = name i ∷ vs
 apply (step.Number i) vs = number i ∷ vs
 apply (step.Truth i) vs = truth i ∷ vs
 apply (step.Reference i) vs = reference i ∷ vs
+apply (step.Cell i) vs = cell i ∷ vs
+apply step.Row vs = row ∷ vs
 apply (step.Constant i) vs = constant i ∷ vs
 apply (step.Prefix s) vs = prefix s (shape_on vs) ∷ rest vs
 apply (step.Binary s) vs = binary s (shape_on (rest vs)) (shape_on vs) ∷ rest (rest vs)
@@ -64,6 +67,11 @@ state_on ps vs held.Complete = has (frames_of ps (rest vs)) (shape_on vs)
 state_on ps vs (held.ClassName o) = owns (frames_of ps vs) o
 state_on ps vs (held.OwnerDot o) = dots (frames_of ps vs) o
 state_on ps vs (held.Callee o i) = calls (frames_of ps vs) o i
+state_on ps vs held.Cell = at_cell (frames_of ps vs)
+state_on ps vs held.CellOpen = opens_cell (frames_of ps vs)
+state_on ps vs (held.CellText i) = names_cell (frames_of ps vs) i
+state_on ps vs held.Row = at_row (frames_of ps vs)
+state_on ps vs held.RowOpen = opens_row (frames_of ps vs)
 
 abbrev pub state_of : List Pending → List ParseStep → Held → State
 state_of ps ss h = state_on ps (run [] ss) h
@@ -83,6 +91,11 @@ code_of (has fs e) = coded fs ++ postfix e
 code_of (owns fs o) = coded fs
 code_of (dots fs o) = coded fs
 code_of (calls fs o i) = coded fs
+code_of (at_cell fs) = coded fs
+code_of (opens_cell fs) = coded fs
+code_of (names_cell fs i) = coded fs
+code_of (at_row fs) = coded fs
+code_of (opens_row fs) = coded fs
 code_of stuck = []
 
 -- the frames and the expression after them

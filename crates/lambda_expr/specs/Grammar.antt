@@ -8,17 +8,20 @@ use Rattle.lambda_expr.specs.declared.lexeme.Lexeme.{Lexeme}
 use Rattle.lambda_expr.specs.declared.lexeme.Lexeme.TheVariants as word
 use Rattle.lambda_expr.specs.declared.lexeme.Name.{Name}
 use Rattle.lambda_expr.specs.declared.lexeme.PlainName.{PlainName}
-use Rattle.lambda_expr.specs.declared.lexeme.Name.TheVariants.{Plain, ClassName, Truth}
+use Rattle.lambda_expr.specs.declared.lexeme.Name.TheVariants.{Plain, ClassName, Truth, Cell, Row}
 use Rattle.lambda_expr.specs.declared.step.ParseStep.{ParseStep}
 use Rattle.lambda_expr.specs.declared.step.ParseStep.TheVariants as step
 use Rattle.lambda_expr.specs.Signs.{is_infix, is_prefix, level}
 
--- an expression as it is written; operands of a call hang together by commas, and a reference is known by its place
+-- an expression as it is written; operands of a call hang together by commas, and a reference and a cell are known by
+-- the places of their names
 pub data Shape : Type 0 where
   name : PlainName → Shape
   number : ℕ → Shape
   truth : Bool → Shape
   reference : ℕ → Shape
+  cell : ℕ → Shape
+  row : Shape
   constant : Name → Shape
   prefix : Sign → Shape → Shape
   binary : Sign → Shape → Shape → Shape
@@ -40,6 +43,8 @@ spells (name i) = word.Name (Plain i) ∷ []
 spells (number i) = word.Number i ∷ []
 spells (truth i) = word.Name (Truth i) ∷ []
 spells (reference i) = word.Reference i ∷ []
+spells (cell i) = word.Name Cell ∷ word.Open ∷ word.Text i ∷ word.Close ∷ []
+spells row = word.Name Row ∷ word.Open ∷ word.Close ∷ []
 spells (constant i) = word.Name (ClassName Long) ∷ word.Dot ∷ word.Name i ∷ []
 spells (prefix s a) = word.Sign s ∷ spells a
 spells (binary s a b) = spells a ++ word.Sign s ∷ spells b
@@ -52,6 +57,8 @@ Binds n (name i) = Unit {0}
 Binds n (number i) = Unit {0}
 Binds n (truth i) = Unit {0}
 Binds n (reference i) = Unit {0}
+Binds n (cell i) = Unit {0}
+Binds n row = Unit {0}
 Binds n (constant i) = Unit {0}
 Binds n (prefix s a) = (n ≤ 12) × (is_prefix s ≡ true) × Binds 12 a
 Binds n (binary s a b) = (n ≤ level s) × (is_infix s ≡ true) × Binds (level s) a × Binds (suc (level s)) b
@@ -72,6 +79,8 @@ postfix (name i) = step.Name i ∷ []
 postfix (number i) = step.Number i ∷ []
 postfix (truth i) = step.Truth i ∷ []
 postfix (reference i) = step.Reference i ∷ []
+postfix (cell i) = step.Cell i ∷ []
+postfix row = step.Row ∷ []
 postfix (constant i) = step.Constant i ∷ []
 postfix (prefix s a) = postfix a ++ step.Prefix s ∷ []
 postfix (binary s a b) = postfix a ++ (postfix b ++ step.Binary s ∷ [])

@@ -4,6 +4,7 @@ pub mod BodyReading
 pub mod CodeWords
 pub mod Codes
 pub mod Elaborating
+pub mod FaultTexts
 pub mod Grammar
 pub mod HeadReading
 pub mod Heads

@@ -9,9 +9,9 @@ use Rattle.lambda_expr.specs.declared.step.Opening.TheVariants.{Paren, Call}
 use Rattle.lambda_expr.specs.declared.lexeme.Lexeme.{Lexeme}
 use Rattle.lambda_expr.specs.declared.lexeme.Lexeme.TheVariants as word
 use Rattle.lambda_expr.specs.declared.lexeme.Name.{Name}
-use Rattle.lambda_expr.specs.declared.lexeme.Name.TheVariants.{Plain, ClassName, Truth}
-use Rattle.lambda_expr.specs.Grammar.{Shape, name, number, truth, reference, constant, prefix, binary, ternary}
-use Rattle.lambda_expr.specs.Grammar.{enclosed}
+use Rattle.lambda_expr.specs.declared.lexeme.Name.TheVariants.{Plain, ClassName, Truth, Cell, Row}
+use Rattle.lambda_expr.specs.Grammar.{Shape, name, number, truth, reference, cell, row, constant, prefix, binary}
+use Rattle.lambda_expr.specs.Grammar.{ternary, enclosed}
 use Rattle.lambda_expr.specs.Signs.{level, is_infix, is_prefix}
 
 -- what waits for the operand to its right
@@ -44,6 +44,11 @@ pub data State : Type 0 where
   owns : List Frame → Class → State
   dots : List Frame → Class → State
   calls : List Frame → Class → Name → State
+  at_cell : List Frame → State
+  opens_cell : List Frame → State
+  names_cell : List Frame → ℕ → State
+  at_row : List Frame → State
+  opens_row : List Frame → State
   stuck : State
 
 -- a comma wants the parenthesis of a call around it
@@ -63,6 +68,8 @@ abbrev pub starts : List Frame → Lexeme → State
 starts fs (word.Name (Plain i)) = has fs (name i)
 starts fs (word.Name (ClassName o)) = owns fs o
 starts fs (word.Name (Truth b)) = has fs (truth b)
+starts fs (word.Name Cell) = at_cell fs
+starts fs (word.Name Row) = at_row fs
 starts fs (word.Reference i) = has fs (reference i)
 starts fs (word.Number i) = has fs (number i)
 starts fs (word.Sign s) = when (is_prefix s) (wants (signed s ∷ fs))
@@ -116,12 +123,39 @@ abbrev pub called : List Frame → Class → Name → Lexeme → State
 called fs o i word.Open = wants (opened (Call o i) ∷ fs)
 called fs o i w = alone fs o i w
 
+-- `cell ( STRING )`
+abbrev pub cell_opened : List Frame → Lexeme → State
+cell_opened fs word.Open = opens_cell fs
+cell_opened fs w = stuck
+
+abbrev pub cell_named : List Frame → Lexeme → State
+cell_named fs (word.Text i) = names_cell fs i
+cell_named fs w = stuck
+
+abbrev pub cell_closed : List Frame → ℕ → Lexeme → State
+cell_closed fs i word.Close = has fs (cell i)
+cell_closed fs i w = stuck
+
+-- `row ( )`
+abbrev pub row_opened : List Frame → Lexeme → State
+row_opened fs word.Open = opens_row fs
+row_opened fs w = stuck
+
+abbrev pub row_closed : List Frame → Lexeme → State
+row_closed fs word.Close = has fs row
+row_closed fs w = stuck
+
 abbrev pub read : State → Lexeme → State
 read (wants fs) w = starts fs w
 read (has fs e) w = follows (record { frames = fs; shape = e }) w
 read (owns fs o) w = owned fs o w
 read (dots fs o) w = dotted fs o w
 read (calls fs o i) w = called fs o i w
+read (at_cell fs) w = cell_opened fs w
+read (opens_cell fs) w = cell_named fs w
+read (names_cell fs i) w = cell_closed fs i w
+read (at_row fs) w = row_opened fs w
+read (opens_row fs) w = row_closed fs w
 read stuck w = stuck
 
 abbrev pub reads : State → List Lexeme → State

@@ -1,6 +1,6 @@
 -- Meaning: which texts are lambdas, and what each other text is refused for.
 pub use Rattle.stream_tokens.specs.CutTexts.{column}
-use Rattle.std.specs.Prelude.{◌≡◌, ℕ, suc, max, ◌<◌, ◌≤◌, not, nat_lt, if◌then◌else◌, ◌⊎◌, List, length, Option, Some}
+use Rattle.std.specs.Prelude.{Bool, false, ◌≡◌, ℕ, suc, max, ◌<◌, ◌≤◌, not, nat_lt, if◌then◌else◌, ◌⊎◌, List, length, Option, Some}
 use Rattle.std.specs.Prelude.{None, Result, Ok, Err}
 use Rattle.stream_tokens.specs.declared.token.Token.{Token}
 use Rattle.stream_tokens.specs.Tokens.{AreTokensOf}
@@ -14,7 +14,7 @@ use Rattle.lambda_expr.specs.declared.source.StreamSource.{StreamSource}
 use Rattle.lambda_expr.specs.Checks.{depth, fit, literals, names_known}
 use Rattle.lambda_expr.specs.Grammar.{Shape}
 use Rattle.lambda_expr.specs.Heads.{ALambda, BodyShape, expression, operands, IsLambda, parameters}
-use Rattle.lambda_expr.specs.Lexemes.{Names, lexemes_of, names_in}
+use Rattle.lambda_expr.specs.Lexemes.{NameNoPlace, Names, lexemes_of, names_in}
 use Rattle.lambda_expr.specs.Stops.{StopsAt}
 use Rattle.lambda_expr.specs.PairForms.{form, whole_form}
 use Rattle.lambda_expr.specs.StreamChecks.{all_fit, all_known, deepest, numbers, stream_of}
@@ -23,6 +23,7 @@ use Rattle.lambda_values.specs.Streams.{Inner}
 use Rattle.lambda_values.specs.Term.{Long}
 use Rattle.lambda_expr.specs.Typing as typing
 use Rattle.lambda_expr.specs.Typing.{Typed, typed}
+use Rattle.lambda_expr.specs.Words.{words_of}
 
 -- the lambda of an expression of this type and form, if it is of the type that is wanted
 abbrev pub wanted : Want → Typed → PairForm → Result AbstractLambda ReadFault
@@ -64,25 +65,25 @@ verdict w h (expression e) = expression_verdict w h e
 verdict w h (operands s es) = stream_verdict h s es
 
 -- the text has at most 4,096 tokens, and they are a lambda with this body
-pub record IsSpelled (text : List ℕ) (w : Want) (body : BodyShape) : Type 0 where
+pub record IsSpelled (cells : Bool) (text : List ℕ) (w : Want) (body : BodyShape) : Type 0 where
   pub tokens : List Token
   pub cut : AreTokensOf tokens text
   pub few : length tokens ≤ 4096
-  pub lambda : IsLambda w (lexemes_of text tokens) body
+  pub lambda : IsLambda w (lexemes_of cells text tokens) body
 
 -- the text is a lambda, and that is what it gives
-pub record Judged (text : List ℕ) (w : Want) (r : Result AbstractLambda ReadFault) : Type 0 where
+pub record Judged (cells : Bool) (text : List ℕ) (w : Want) (r : Result AbstractLambda ReadFault) : Type 0 where
   pub body : BodyShape
-  pub spelled : IsSpelled text w body
+  pub spelled : IsSpelled cells text w body
   pub gives : verdict w (names_in text spelled.tokens) body ≡ r
 
 -- the text is no lambda, and stops being the beginning of one at this column
-pub record IsNoLambda (text : List ℕ) (w : Want) (at : ℕ) : Type 0 where
+pub record IsNoLambda (cells : Bool) (text : List ℕ) (w : Want) (at : ℕ) : Type 0 where
   pub tokens : List Token
   pub cut : AreTokensOf tokens text
   pub few : length tokens ≤ 4096
   pub place : ℕ
-  pub stops : StopsAt (ALambda w) (lexemes_of text tokens) place
+  pub stops : StopsAt (ALambda w) (lexemes_of cells text tokens) place
   pub here : at ≡ column text tokens place
 
 -- the text has more than 4,096 tokens
@@ -91,15 +92,27 @@ pub record HasTooManyTokens (text : List ℕ) : Type 0 where
   pub cut : AreTokensOf tokens text
   pub many : 4096 < length tokens
 
--- the text spells this lambda of that want
-abbrev pub SpellsLambda : List ℕ → Want → Lambda → Type 0
-SpellsLambda text w l = Judged text w (Ok (body_of l.body))
+-- the text, which may have cells and rows or not, spells this lambda of that want
+abbrev pub SpellsLambdaWithin : Bool → List ℕ → Want → Lambda → Type 0
+SpellsLambdaWithin cells text w l = Judged cells text w (Ok (body_of l.body))
 
--- the text is refused for this; out of memory may be the answer for any text
+-- the text, which has neither cells nor rows, spells this lambda of that want
+abbrev pub SpellsLambda : List ℕ → Want → Lambda → Type 0
+SpellsLambda text w l = SpellsLambdaWithin false text w l
+
+-- the text, which may have cells and rows or not, is refused for this; out of memory may be the answer for any text
+abbrev pub IsRefusedWithin : Bool → List ℕ → Want → ReadFault → Type 0
+IsRefusedWithin cells text w (fault.Syntax at) = IsNoLambda cells text w at
+IsRefusedWithin cells text w fault.TooDeep = HasTooManyTokens text ⊎ Judged cells text w (Err fault.TooDeep)
+IsRefusedWithin cells text w fault.LiteralTooLarge = Judged cells text w (Err fault.LiteralTooLarge)
+IsRefusedWithin cells text w fault.UnknownName = Judged cells text w (Err fault.UnknownName)
+IsRefusedWithin cells text w fault.WrongType = Judged cells text w (Err fault.WrongType)
+IsRefusedWithin cells text w fault.NoMemory = Unit {0}
+
+-- the text, which has neither cells nor rows, is refused for this
 abbrev pub IsRefused : List ℕ → Want → ReadFault → Type 0
-IsRefused text w (fault.Syntax at) = IsNoLambda text w at
-IsRefused text w fault.TooDeep = HasTooManyTokens text ⊎ Judged text w (Err fault.TooDeep)
-IsRefused text w fault.LiteralTooLarge = Judged text w (Err fault.LiteralTooLarge)
-IsRefused text w fault.UnknownName = Judged text w (Err fault.UnknownName)
-IsRefused text w fault.WrongType = Judged text w (Err fault.WrongType)
-IsRefused text w fault.NoMemory = Unit {0}
+IsRefused text w f = IsRefusedWithin false text w f
+
+-- neither `cell`, nor `row`, nor a string stands in the text
+abbrev pub NamesNoPlace : List ℕ → Type 0
+NamesNoPlace text = (tokens : List Token) → AreTokensOf tokens text → NameNoPlace (words_of text tokens)

@@ -63,6 +63,8 @@ summary_step p (step.Name i) ss =
 summary_step p (step.Number n) ss = record { literals = Number n; depth = 1; known = true; form = Single Other } ∷ ss
 summary_step p (step.Truth b) ss = nothing ∷ ss
 summary_step p (step.Reference i) ss = nothing ∷ ss
+summary_step p (step.Cell i) ss = nothing ∷ ss
+summary_step p step.Row ss = nothing ∷ ss
 summary_step p (step.Constant n) ss =
     record { literals = Fit true; depth = 1; known = is_some (constant_of n); form = Single Other } ∷ ss
 summary_step p (step.Prefix s) ss = prefix_summary s (top_summary ss) ∷ below ss

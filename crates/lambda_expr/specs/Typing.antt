@@ -14,8 +14,8 @@ use Rattle.lambda_expr.specs.declared.operation.SignOperation.TheVariants.{Compu
 use Rattle.lambda_expr.specs.declared.operation.Function.{Function}
 use Rattle.lambda_expr.specs.declared.operation.Function.TheVariants.{Unary, Binary}
 use Rattle.lambda_expr.specs.declared.step.Opening.TheVariants.{Paren, Call}
-use Rattle.lambda_expr.specs.Grammar.{Shape, name, number, truth, reference, constant, prefix, binary, ternary}
-use Rattle.lambda_expr.specs.Grammar.{enclosed}
+use Rattle.lambda_expr.specs.Grammar.{Shape, name, number, truth, reference, cell, row, constant, prefix, binary}
+use Rattle.lambda_expr.specs.Grammar.{ternary, enclosed}
 use Rattle.lambda_expr.specs.Lexemes.{Names}
 use Rattle.lambda_expr.specs.Signs.{operation_of}
 use Rattle.lambda_values.specs.Term as term
@@ -88,6 +88,8 @@ typed h (name i) = long (term.parameter i.number)
 typed h (number n) = long (term.number (wrap (pos n)))
 typed h (truth b) = boolean (term.literal b)
 typed h (reference i) = long (term.reference (h i))
+typed h (cell i) = long (term.cell (h i))
+typed h row = long term.row
 typed h (constant n) = constant_typed (constant_of n)
 typed h (prefix s a) = prefixed s (typed h a)
 typed h (binary s a b) = operated (typed h a) (typed h b) (operation_of s)

@@ -241,7 +241,8 @@ fn follow(stack: &mut Vec<Summary>, parameters: usize, step: ParseStep) -> Summa
             literals: Literals::Number(value),
             ..NOTHING
         },
-        ParseStep::Truth(_) | ParseStep::Reference(_) => NOTHING,
+        ParseStep::Truth(_) | ParseStep::Reference(_) | ParseStep::Cell(_) | ParseStep::Row =>
+            NOTHING,
         ParseStep::Constant(name) => Summary {
             known: constant_of(name).is_some(),
             ..NOTHING

@@ -8,7 +8,7 @@ ghost use Rattle.lambda_values.specs.Term.{long_of};
 ghost use Rattle.std.specs.Prelude.{◌≡◌, IfOk, List, [], ◌∷◌, ◌++◌};
 
 use super::making::{
-    binary, choose_long, choose_truth, compare, connect, number, reference, unary,
+    binary, cell, choose_long, choose_truth, compare, connect, number, reference, unary,
 };
 use super::operation::{Function, SignOperation};
 use super::sign::Sign;
@@ -173,6 +173,8 @@ fn follow(
     match step {
         ParseStep::Name(name) => Ok(TypedOperand::Long(LongExpr::Parameter(name.number))),
         ParseStep::Reference(place) => reference(alloc, text, place),
+        ParseStep::Cell(place) => cell(alloc, text, place),
+        ParseStep::Row => Ok(TypedOperand::Long(LongExpr::Row)),
         ParseStep::Number(value) => Ok(number(value)),
         ParseStep::Truth(value) => Ok(TypedOperand::Truth(BoolExpr::Literal(value))),
         ParseStep::Constant(name) => match constant_of(name) {

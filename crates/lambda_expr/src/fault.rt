@@ -1,12 +1,15 @@
 //! Why a text is no lambda.
-
-ghost use Rattle.std.specs.Prelude.{◌≡◌};
+ghost use Rattle.std.specs.Prelude.{◌≡◌, Some};
+ghost use Rattle.lambda_expr.specs.FaultTexts.{read_fault_text};
 ghost use Rattle.lambda_expr.specs.declared.fault.ReadFault.TheVariants.{NoMemory};
 
 use std::alloc::{AllocError, AllocFailed};
+use std::fmt;
+use std::fmt::{Display, Formatter, Write};
+use thiserror::Error;
 
 /// Why a text is not read as a lambda of the want. Numbers 1 to 6, in this order.
-#[derive(Clone, Copy, Debug, PartialEq, Eq)]
+#[derive(Clone, Copy, Debug, PartialEq, Eq, Error)]
 pub enum ReadFault {
     /// The text is not in the grammar. The column is a byte position from 1: of the first token where the tokens up to
     /// and with it begin no lambda, or one past the last byte.
@@ -21,6 +24,21 @@ pub enum ReadFault {
     LiteralTooLarge,
     /// An allocation failed.
     NoMemory,
+}
+
+impl Display for ReadFault {
+    ghost output = { λ fault. Some (read_fault_text fault) };
+
+    fn fmt<W: Write>(&self, f: &mut Formatter<W>) -> fmt::Result {
+        match self {
+            ReadFault::Syntax { column } => write!(f, "expression syntax at column {column}"),
+            ReadFault::WrongType => f.write_str("wrong type"),
+            ReadFault::UnknownName => f.write_str("unknown name"),
+            ReadFault::TooDeep => f.write_str("too deep"),
+            ReadFault::LiteralTooLarge => f.write_str("literal too large"),
+            ReadFault::NoMemory => f.write_str("out of memory"),
+        }
+    }
 }
 
 impl From<AllocError> for ReadFault {

@@ -1,7 +1,8 @@
 //! What the tokens of a text are to the grammar of lambdas.
 
-ghost use Rattle.lambda_expr.specs.Lexemes.{first_name, is_reserved, is_taken, lexeme_of, lexemes_of, name_of};
-ghost use Rattle.lambda_expr.specs.Lexemes.{names_in, number_lexeme, order_of, reference_name, symbol_lexeme};
+ghost use Rattle.lambda_expr.specs.Lexemes.{between_quotes, first_name, is_reserved, is_taken, lexeme_of};
+ghost use Rattle.lambda_expr.specs.Lexemes.{lexemes_of, name_of, names_in, number_lexeme, order_of, reference_name};
+ghost use Rattle.lambda_expr.specs.Lexemes.{symbol_lexeme};
 ghost use Rattle.lambda_expr.specs.CodeWords.{word_of, words_in};
 ghost use Rattle.std.specs.Prelude.{◌≡◌, ◌≤◌, drop, get_or, length, option_copied, take};
 
@@ -39,6 +40,10 @@ pub(crate) enum Name {
     LowerLong,
     /// `LongStream`.
     LongStream,
+    /// `cell`, in a text that may have cells and rows.
+    Cell,
+    /// `row`, in a text that may have cells and rows.
+    Row,
 }
 
 /// What a token is to the grammar: a number by its value, or the greatest `u64` if that is less.
@@ -49,6 +54,8 @@ pub(crate) enum Lexeme {
     Number(u64),
     /// A reference, by the place of its token.
     Reference(usize),
+    /// A string, by the place of its token, in a text that may have cells and rows.
+    Text(usize),
     Sign(Sign),
     Close,
     Dot,
@@ -72,8 +79,8 @@ fn order_of(first: Option<&[u8]>, second: Option<&[u8]>, name: &[u8]) -> usize
 }
 
 // A name of a text, if these are the first two that a parameter may have.
-fn name_of(first: Option<&[u8]>, second: Option<&[u8]>, name: &[u8]) -> Name
-    ensures { result ≡ name_of (option_copied first.entry) (option_copied second.entry) name.now }
+fn name_of(cells: bool, first: Option<&[u8]>, second: Option<&[u8]>, name: &[u8]) -> Name
+    ensures { result ≡ name_of cells (option_copied first.entry) (option_copied second.entry) name.now }
 {
     if name == b"Math".as_slice() {
         Name::ClassName(ClassName::Math)
@@ -87,6 +94,10 @@ fn name_of(first: Option<&[u8]>, second: Option<&[u8]>, name: &[u8]) -> Name
         Name::Truth(true)
     } else if name == b"false".as_slice() {
         Name::Truth(false)
+    } else if cells && name == b"cell".as_slice() {
+        Name::Cell
+    } else if cells && name == b"row".as_slice() {
+        Name::Row
     } else {
         Name::Plain(PlainName {
             number: order_of(first, second, name),
@@ -123,24 +134,32 @@ fn number_lexeme(number: &[u8]) -> Lexeme
 }
 
 // The lexeme of the word at a place, if these are the first two names that a parameter may have.
-fn lexeme_of(first: Option<&[u8]>, second: Option<&[u8]>, at: usize, word: Word) -> Lexeme
+fn lexeme_of(
+    cells: bool,
+    first: Option<&[u8]>,
+    second: Option<&[u8]>,
+    at: usize,
+    word: Word,
+) -> Lexeme
     ensures { result
-        ≡ lexeme_of (option_copied first.entry) (option_copied second.entry) at (word_of word.entry) }
+        ≡ lexeme_of cells (option_copied first.entry) (option_copied second.entry) at (word_of word.entry) }
 {
     match word {
-        Word::Name(name) => Lexeme::Name(name_of(first, second, name)),
+        Word::Name(name) => Lexeme::Name(name_of(cells, first, second, name)),
         Word::Number(number) => number_lexeme(number),
         Word::Reference(_) => Lexeme::Reference(at),
+        Word::Text(_) if cells => Lexeme::Text(at),
         Word::Sign(symbol) => symbol_lexeme(symbol),
         _ => Lexeme::Other,
     }
 }
 
 // Whether no parameter has this name.
-fn is_reserved(name: &[u8]) -> bool
-    ensures { result ≡ is_reserved name.now }
+fn is_reserved(cells: bool, name: &[u8]) -> bool
+    ensures { result ≡ is_reserved cells name.now }
 {
-    name == b"Math".as_slice()
+    cells && (name == b"cell".as_slice() || name == b"row".as_slice())
+        || name == b"Math".as_slice()
         || name == b"Long".as_slice()
         || name == b"LongStream".as_slice()
         || name == b"long".as_slice()
@@ -149,12 +168,12 @@ fn is_reserved(name: &[u8]) -> bool
 }
 
 // The first name of a text that a parameter may have, apart from one that is taken.
-fn first_name<'a>(text: &CutText<'a>, taken: Option<&[u8]>) -> Option<&'a [u8]>
-    ensures { option_copied result ≡ first_name (option_copied taken.entry) (words_in text.now) }
+fn first_name<'a>(cells: bool, text: &CutText<'a>, taken: Option<&[u8]>) -> Option<&'a [u8]>
+    ensures { option_copied result ≡ first_name cells (option_copied taken.entry) (words_in text.now) }
 {
     for at in 0..text.len() {
         if let Word::Name(name) = word_at(text, at) {
-            if !is_reserved(name) && Some(name) != taken {
+            if !is_reserved(cells, name) && Some(name) != taken {
                 return Some(name);
             }
         }
@@ -166,6 +185,8 @@ fn first_name<'a>(text: &CutText<'a>, taken: Option<&[u8]>) -> Option<&'a [u8]>
 #[derive(Drop)]
 pub(crate) struct Lexemes<'a> {
     text: &'a CutText<'a>,
+    /// Whether the text may have cells and rows.
+    cells: bool,
     /// The first two names of the text that a parameter may have.
     first: Option<&'a [u8]>,
     second: Option<&'a [u8]>,
@@ -186,15 +207,16 @@ impl<'a> Model for Lexemes<'a> {
 }
 
 impl<'a> Lexemes<'a> {
-    /// The lexemes of a text.
-    pub(crate) fn of(text: &'a CutText<'a>) -> Lexemes<'a>
-        ensures { result ≡ lexemes_of text.now.bytes text.now.tokens }
+    /// The lexemes of a text, which may have cells and rows or not.
+    pub(crate) fn of(text: &'a CutText<'a>, cells: bool) -> Lexemes<'a>
+        ensures { result ≡ lexemes_of cells text.now.bytes text.now.tokens }
     {
-        let first = first_name(text, None);
+        let first = first_name(cells, text, None);
         Lexemes {
             text,
+            cells,
             first,
-            second: first_name(text, first),
+            second: first_name(cells, text, first),
             from: 0,
             to: text.len(),
         }
@@ -215,7 +237,13 @@ impl<'a> Lexemes<'a> {
             return Lexeme::Other;
         }
         let at = self.from + place;
-        lexeme_of(self.first, self.second, at, word_at(self.text, at))
+        lexeme_of(
+            self.cells,
+            self.first,
+            self.second,
+            at,
+            word_at(self.text, at),
+        )
     }
 
     /// Those from a place on.
@@ -242,17 +270,28 @@ impl<'a> Lexemes<'a> {
     }
 }
 
-// The name of a reference, without its `$`; no bytes of another word.
+// The bytes between the quotes of a string.
+fn between_quotes(string: &[u8]) -> &[u8]
+    ensures { result.now ≡ between_quotes string.now }
+{
+    match string {
+        [_, name @ .., _] => name,
+        _ => b"".as_slice(),
+    }
+}
+
+// The name of a reference, without its `$`, or that in a string; no bytes of another word.
 fn name_after_sign<'a>(word: Word<'a>) -> &'a [u8]
     ensures { result.now ≡ reference_name (word_of word.entry) }
 {
     match word {
         Word::Reference([_, name @ ..]) => name,
+        Word::Text(string) => between_quotes(string),
         _ => b"".as_slice(),
     }
 }
 
-/// The name of the reference at a place, without its `$`; no bytes if there is none.
+/// The name of the reference at a place, without its `$`, or that in a string; no bytes if there is none.
 pub(crate) fn reference_name<'a>(text: &CutText<'a>, place: usize) -> &'a [u8]
     ensures { result.now ≡ names_in text.now.bytes text.now.tokens place }
 {

@@ -1,14 +1,17 @@
 //! Lambdas over numbers of 64 bits: reading them from texts.
 //!
 //! It stands on `stream_tokens`, which cuts a text into tokens, and on `lambda_values`, which has the
-//! expressions and their values; the types of what is read have their names here too. Its users:
+//! expressions and their values. Its users:
 //! - `job_language` reads lambdas by `read_lambda_of`, clauses `ok` and `refused`: a part of a text that
 //!   is cut already gives the lambda that it spells, or the first refusal that applies, a syntax fault
 //!   with its column. It reads numbers by `is_number` and
 //!   `number_read`, and other words by `word_at`: a word is a function of a token.
 //! - other programs read whole texts by `read_lambda` and `read_number`.
 //!
-//! `each_text_has_an_answer`, `one_answer` and `one_number` say that there is one answer and no other.
+//! `read_lambda_within` reads `cell("name")` and `row()` too, where its caller says that the text may have them.
+//!
+//! `each_text_has_an_answer`, `one_answer` and `one_number` say that there is one answer and no other; `without_cells`
+//! and `same_without_the_word` say what cells and rows change.
 //!
 //! Begin with `specs/Grammar.antt` and `specs/Refusals.antt`, then `read.rt` and `parse.rt`.
 //!
@@ -38,8 +41,11 @@ mod want;
 mod word;
 
 pub use fault::ReadFault;
-pub use laws::{each_text_has_an_answer, one_answer, one_number, one_reading, one_stop};
+pub use laws::{
+    each_text_has_an_answer, one_answer, one_number, one_reading, one_stop, same_without_the_word,
+    without_cells,
+};
 pub use number::{is_number, may_stand, number_read, read_number};
-pub use read::{read_lambda, read_lambda_of};
+pub use read::{read_lambda, read_lambda_of, read_lambda_within};
 pub use want::Want;
 pub use word::{Word, word_at};

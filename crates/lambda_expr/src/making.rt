@@ -77,3 +77,11 @@ pub(crate) fn reference(alloc: Global, text: &CutText, place: usize) -> Elaborat
     let name = Bytes::from(Vec::from_slice(alloc, reference_name(text, place))?);
     Ok(TypedOperand::Long(LongExpr::Reference(Box::new(alloc, name)?)))
 }
+
+/// The cell of the column that the string at a place names.
+pub(crate) fn cell(alloc: Global, text: &CutText, place: usize) -> Elaborated
+    ensures { IfOk result (λ o. typed_of o ≡ long (term.cell (names_in text.now.bytes text.now.tokens place))) }
+{
+    let name = Bytes::from(Vec::from_slice(alloc, reference_name(text, place))?);
+    Ok(TypedOperand::Long(LongExpr::Cell(Box::new(alloc, name)?)))
+}

@@ -4,7 +4,7 @@ ghost use Rattle.std.specs.Prelude.{◌≡◌, ◌<◌, List, [], IfOk, IfErr};
 ghost use Rattle.lambda_expr.specs.declared.step.ParseStep.{ParseStep as step};
 ghost use Rattle.lambda_expr.specs.Grammar.{Expression};
 ghost use Rattle.lambda_expr.specs.Signs.{level};
-ghost use Rattle.lambda_expr.specs.Reader.{read, joins, starts, called};
+ghost use Rattle.lambda_expr.specs.Reader.{read, joins, starts, called, cell_closed, row_closed};
 ghost use Rattle.lambda_expr.specs.Codes.{reduced, state_of, top_of, IsCoded, IsSettled, Turns};
 ghost use Rattle.lambda_expr.specs.Codes.{frames_of, run, ArePostfix, IsStop};
 ghost use Rattle.lambda_expr.specs.declared.parse.ParseStop.TheVariants.{NoMemory};
@@ -34,6 +34,16 @@ pub(crate) enum Held {
     ClassName(ClassName),
     OwnerDot(ClassName),
     Callee(ClassName, Name),
+    /// `cell`.
+    Cell,
+    /// `cell(`.
+    CellOpen,
+    /// `cell(` and a string, by its place.
+    CellText(usize),
+    /// `row`.
+    Row,
+    /// `row(`.
+    RowOpen,
 }
 
 /// Why words were not read.
@@ -123,6 +133,8 @@ fn start(stack: &mut Stack, steps: &mut Vec<ParseStep>, word: Lexeme, at: usize)
             Ok(Held::Complete)
         }
         Lexeme::Name(Name::ClassName(owner)) => Ok(Held::ClassName(owner)),
+        Lexeme::Name(Name::Cell) => Ok(Held::Cell),
+        Lexeme::Name(Name::Row) => Ok(Held::Row),
         Lexeme::Number(number) => {
             steps.push(ParseStep::Number(number))?;
             Ok(Held::Complete)
@@ -174,6 +186,42 @@ fn call(
     }
 }
 
+// One more word after `cell(` and a string.
+fn close_cell(
+    stack: &Stack,
+    steps: &mut Vec<ParseStep>,
+    place: usize,
+    word: Lexeme,
+    at: usize,
+) -> Parsed<Held>
+    requires { IsCoded stack.now steps.old.items (Held.CellText place) }
+    ensures { Turns (cell_closed (frames_of stack.now (run [] steps.old.items)) place word)
+        at stack.now steps.new.items result }
+{
+    match word {
+        Lexeme::Close => {
+            steps.push(ParseStep::Cell(place))?;
+            Ok(Held::Complete)
+        }
+        _ => Err(ParseStop::At(at)),
+    }
+}
+
+// One more word after `row(`.
+fn close_row(stack: &Stack, steps: &mut Vec<ParseStep>, word: Lexeme, at: usize) -> Parsed<Held>
+    requires { IsCoded stack.now steps.old.items Held.RowOpen }
+    ensures { Turns (row_closed (frames_of stack.now (run [] steps.old.items)) word)
+        at stack.now steps.new.items result }
+{
+    match word {
+        Lexeme::Close => {
+            steps.push(ParseStep::Row)?;
+            Ok(Held::Complete)
+        }
+        _ => Err(ParseStop::At(at)),
+    }
+}
+
 // One more word.
 fn turn(
     stack: &mut Stack,
@@ -197,6 +245,20 @@ fn turn(
             _ => Err(ParseStop::At(at)),
         },
         Held::Callee(owner, name) => call(stack, steps, owner, name, word, at),
+        Held::Cell => match word {
+            Lexeme::Open => Ok(Held::CellOpen),
+            _ => Err(ParseStop::At(at)),
+        },
+        Held::CellOpen => match word {
+            Lexeme::Text(place) => Ok(Held::CellText(place)),
+            _ => Err(ParseStop::At(at)),
+        },
+        Held::CellText(place) => close_cell(stack, steps, place, word, at),
+        Held::Row => match word {
+            Lexeme::Open => Ok(Held::RowOpen),
+            _ => Err(ParseStop::At(at)),
+        },
+        Held::RowOpen => close_row(stack, steps, word, at),
     }
 }
 

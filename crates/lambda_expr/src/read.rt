@@ -8,7 +8,8 @@ ghost use Rattle.lambda_expr.specs.Codes.{IsStop};
 ghost use Rattle.lambda_expr.specs.Elaborating.{typed_of};
 ghost use Rattle.lambda_expr.specs.Lexemes.{names_in};
 ghost use Rattle.lambda_values.specs.Lambda.{body_of};
-ghost use Rattle.lambda_expr.specs.Refusals.{IsRefused, SpellsLambda, expression_verdict, verdict};
+ghost use Rattle.lambda_expr.specs.Refusals.{IsRefused, IsRefusedWithin, SpellsLambda, SpellsLambdaWithin};
+ghost use Rattle.lambda_expr.specs.Refusals.{expression_verdict, verdict};
 ghost use Rattle.lambda_expr.specs.Refusals.{wanted as specs_wanted};
 ghost use Rattle.std.specs.Prelude.{◌≡◌, ◌≢◌, [], Err, IfErr, IfOk, Ok};
 
@@ -101,13 +102,28 @@ pub fn read_lambda_of(alloc: Global, text: &CutText, want: Want) -> Result<Lambd
     ensures refused { IfErr result (λ fault. IsRefused text.now.bytes want fault) }
     ensures memory { IfErr result (λ fault. fault ≡ ReadFault.NoMemory → text.now.bytes ≢ []) }
 {
+    read_lambda_within(alloc, text, want, false)
+}
+
+/// Reads a lambda as `read_lambda_of` does, from a text that may have cells and rows, as `cell("name")` and `row()`,
+/// or not.
+pub fn read_lambda_within(
+    alloc: Global,
+    text: &CutText,
+    want: Want,
+    cells: bool,
+) -> Result<Lambda, ReadFault>
+    ensures ok { IfOk result (λ lambda. SpellsLambdaWithin cells text.now.bytes want lambda) }
+    ensures refused { IfErr result (λ fault. IsRefusedWithin cells text.now.bytes want fault) }
+    ensures memory { IfErr result (λ fault. fault ≡ ReadFault.NoMemory → text.now.bytes ≢ []) }
+{
     if text.bytes().is_empty() {
         return Err(ReadFault::Syntax { column: 1 });
     }
     if text.len() > MAX_TOKENS {
         return Err(ReadFault::TooDeep);
     }
-    match parse_lambda(alloc, &Lexemes::of(text), want) {
+    match parse_lambda(alloc, &Lexemes::of(text, cells), want) {
         Ok(body) => judge(alloc, text, &body, want),
         Err(ParseStop::At(place)) => Err(ReadFault::Syntax {
             column: text.column(place),

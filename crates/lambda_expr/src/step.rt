@@ -19,6 +19,10 @@ pub(crate) enum ParseStep {
     Truth(bool),
     /// A reference, by the place of its token.
     Reference(usize),
+    /// A cell, by the place of the string that names its column.
+    Cell(usize),
+    /// The place of the item.
+    Row,
     Constant(Name),
     Prefix(Sign),
     Binary(Sign),

@@ -1,6 +1,7 @@
 pub mod DivisionLaws
 pub mod ExactLemmas
 pub mod Multiples
+pub mod Placeless
 pub mod Quotients
 pub mod References
 pub mod Shifts

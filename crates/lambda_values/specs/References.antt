@@ -3,7 +3,7 @@ use Rattle.std.specs.Prelude.{◌≡◌, ℕ, List, [], ◌∷◌, ◌++◌}
 use Rattle.lambda_values.specs.Earlier.{Numbers, number_under}
 use Rattle.lambda_values.specs.Lambda.{AbstractLambda, long, boolean, stream, pair}
 use Rattle.lambda_values.specs.Streams.{Inner, range, range_closed, values}
-use Rattle.lambda_values.specs.Term.{Long, number, parameter, reference, unary, binary, choose, Truth, literal, compare, opposite, connect, choose_truth}
+use Rattle.lambda_values.specs.Term.{Long, number, parameter, reference, cell, row, unary, binary, choose, Truth, literal, compare, opposite, connect, choose_truth}
 
 -- the names of the earlier jobs that an expression refers to, from left to right
 abbrev mutual
@@ -11,6 +11,8 @@ abbrev mutual
   long_names (number z) = []
   long_names (parameter n) = []
   long_names (reference name) = name ∷ []
+  long_names (cell name) = []
+  long_names row = []
   long_names (unary o a) = long_names a
   long_names (binary o a b) = long_names a ++ long_names b
   long_names (choose c a b) = truth_names c ++ (long_names a ++ long_names b)
@@ -40,7 +42,7 @@ names_of (boolean e) = truth_names e
 names_of (stream g) = inner_names g
 names_of (pair f) = []
 
--- two environments have equal numbers under each of these names, or both none
+-- two environments have equal numbers under each of these names, or both none, and one table
 abbrev pub Agree : List (List ℕ) → Numbers → Numbers → Type 0
-Agree [] a b = Unit {0}
-Agree (name ∷ names) a b = (number_under name a ≡ number_under name b) × Agree names a b
+Agree [] a b = a.table ≡ b.table
+Agree (name ∷ names) a b = (number_under name a.earlier ≡ number_under name b.earlier) × Agree names a b

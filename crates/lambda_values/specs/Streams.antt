@@ -2,6 +2,7 @@
 use Rattle.std.specs.Prelude.{ℕ, zero, suc, ◌^◌, ℤ, pos, ◌+ℤ◌, ◌-ℤ◌, int_lt, nat_lt, unsigned_abs, if◌then◌else◌, List, [], ◌∷◌, Option, Some, None, Result, Ok, Err}
 use Rattle.lambda_values.specs.declared.fault.FaultKind.{FaultKind}
 use Rattle.lambda_values.specs.declared.fault.FaultKind.TheVariants.{SourceTooLong}
+use Rattle.lambda_values.specs.declared.item.Item.{Item}
 use Rattle.lambda_values.specs.declared.expr.LongExpr.{LongExpr}
 use Rattle.lambda_values.specs.declared.inner.InnerExpr.{InnerExpr}
 use Rattle.lambda_values.specs.declared.inner.InnerExpr.TheVariants as inner_expr
@@ -37,12 +38,12 @@ abbrev pub up_from : ℤ → ℕ → Result (List ℤ) FaultKind
 up_from a n = if nat_lt (2 ^ 62) n then Err SourceTooLong else Ok (counted a n)
 
 -- the values of operands from left to right, or the first fault (JLS 17, 15.7)
-abbrev pub each_value : List Long → ℤ → Numbers → Result (List ℤ) FaultKind
+abbrev pub each_value : List Long → Item → Numbers → Result (List ℤ) FaultKind
 each_value [] x env = Ok []
 each_value (e ∷ es) x env = on (long_value e x env) (λ v. on (each_value es x env) (λ vs. Ok (v ∷ vs)))
 
 -- the values at the item x: of LongStream, range, rangeClosed, of and empty
-abbrev pub inner_value : Inner → ℤ → Numbers → Result (List ℤ) FaultKind
+abbrev pub inner_value : Inner → Item → Numbers → Result (List ℤ) FaultKind
 inner_value (range a b) x env = on (long_value a x env) (λ v. on (long_value b x env) (λ w. up_from v (distance v w)))
 inner_value (range_closed a b) x env = on (long_value a x env) (λ v. on (long_value b x env) (λ w. up_from v (through v w)))
 inner_value (values es) x env = each_value es x env

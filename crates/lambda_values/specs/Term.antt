@@ -10,11 +10,14 @@ use Rattle.lambda_values.specs.declared.expr.BoolExpr.{BoolExpr}
 use Rattle.lambda_values.specs.declared.expr.BoolExpr.TheVariants as bool_expr
 
 mutual
-  -- an expression whose value is a number; parameters count from 0, and a reference is the name of an earlier job
+  -- an expression whose value is a number; parameters count from 0, a reference is the name of an earlier job, a cell the
+  -- name of a column, and a row the place of the item
   pub data Long : Type 0 where
     number : ℤ → Long
     parameter : ℕ → Long
     reference : List ℕ → Long
+    cell : List ℕ → Long
+    row : Long
     unary : UnaryOperator → Long → Long
     binary : BinaryOperator → Long → Long → Long
     choose : Truth → Long → Long → Long
@@ -33,6 +36,8 @@ abbrev mutual
   long_of (long_expr.Number z) = number z
   long_of (long_expr.Parameter n) = parameter n
   long_of (long_expr.Reference name) = reference name.value
+  long_of (long_expr.Cell name) = cell name.value
+  long_of long_expr.Row = row
   long_of (long_expr.Unary' o p a) = unary o (long_of a)
   long_of (long_expr.Binary' o p a b) = binary o (long_of a) (long_of b)
   long_of (long_expr.Choose' p c a b) = choose (truth_of c) (long_of a) (long_of b)

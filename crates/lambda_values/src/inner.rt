@@ -8,6 +8,7 @@ ghost use Rattle.std.specs.Prelude.{◌≡◌, ◌+◌, ◌<◌, ◌≤◌, ◌^
 use super::env::Env;
 use super::expr::LongExpr;
 use super::fault::FaultKind;
+use super::item::Item;
 use super::operands::Operands;
 use super::run::Run;
 use arrayvec::ArrayVec;
@@ -73,7 +74,7 @@ pub fn closed_range(from: i64, to: i64) -> Result<Run, FaultKind>
 // The values of expressions in a list, or the first fault.
 fn list_values(
     operands: &Operands,
-    x: i64,
+    x: Item,
     env: &Env,
     listed: &mut ListedValues,
 ) -> Result<(), FaultKind>
@@ -82,32 +83,34 @@ fn list_values(
 {
     listed.clear();
     for expr in operands.exprs() {
-        listed.push(expr.eval(x, env)?);
+        listed.push(expr.eval_at(x, env)?);
     }
     Ok(())
 }
 
 impl InnerExpr {
-    /// The values at the item `x`, or the first fault from left to right; `SourceTooLong` for a range
+    /// The values at a number by itself, or the first fault from left to right; `SourceTooLong` for a range
     /// of more than 2^62. It takes no memory.
     ///
     /// For other programs: `streamrun` evaluates into a list that it keeps, by `eval_into`.
     pub fn eval(&self, x: i64, env: &Env) -> Result<Inner, FaultKind>
-        ensures ok { IfOk result (λ inner. inner_value (inner_of self.now) x env.now ≡ Ok (inner_values inner)) }
-        ensures fault { IfErr result (λ kind. inner_value (inner_of self.now) x env.now ≡ Err kind) }
+        ensures ok { IfOk result (λ inner.
+            inner_value (inner_of self.now) (record { origin = 0; value = x }) env.now ≡ Ok (inner_values inner)) }
+        ensures fault { IfErr result (λ kind.
+            inner_value (inner_of self.now) (record { origin = 0; value = x }) env.now ≡ Err kind) }
     {
         let mut listed = ArrayVec::new();
-        match self.eval_into(x, env, &mut listed)? {
+        match self.eval_into(Item::alone(x), env, &mut listed)? {
             Some(run) => Ok(Inner::Range(run)),
             None => Ok(Inner::Values(listed)),
         }
     }
 
-    /// The values at the item `x` for a caller that keeps a list from item to item: the integers in a row, or none if
+    /// The values at an item for a caller that keeps a list from item to item: the integers in a row, or none if
     /// the values are in the list.
     pub fn eval_into(
         &self,
-        x: i64,
+        x: Item,
         env: &Env,
         listed: &mut ListedValues,
     ) -> Result<Option<Run>, FaultKind>
@@ -117,13 +120,13 @@ impl InnerExpr {
     {
         match self {
             InnerExpr::Range(from, to) => {
-                let from = from.eval(x, env)?;
-                let to = to.eval(x, env)?;
+                let from = from.eval_at(x, env)?;
+                let to = to.eval_at(x, env)?;
                 Ok(Some(range(from, to)?))
             }
             InnerExpr::RangeClosed(from, to) => {
-                let from = from.eval(x, env)?;
-                let to = to.eval(x, env)?;
+                let from = from.eval_at(x, env)?;
+                let to = to.eval_at(x, env)?;
                 Ok(Some(closed_range(from, to)?))
             }
             InnerExpr::Of(operands) => {

@@ -5,8 +5,8 @@
 //!   `InnerExpr::eval_into`: the value over unbounded integers, cut to 64 bits where Java does it
 //!   (JLS 17, chapter 15), or the first fault from left to right. `BinaryOperator::apply` and its
 //!   like are for what evaluates in another order, as `batch_eval`;
-//! - `lambda_expr` makes expressions out of texts, and gives out the types of what it reads.
-//!   `Lambda::names` lists the `$` names of one that is read.
+//! - `lambda_expr` makes expressions out of texts. `Lambda::names` lists the `$` names of one that is
+//!   read.
 //!
 //! Begin with `specs/Operators.antt` and `specs/Value.antt`, then `expr.rt`.
 //!
@@ -16,14 +16,17 @@
 #![tactic(auto)]
 
 mod arithmetic;
+mod cells;
 mod env;
 mod expr;
 mod fault;
 mod inner;
+mod item;
 mod lambda;
 mod names;
 mod operands;
 mod operator;
+mod places;
 mod quotient;
 mod run;
 mod wrapping;
@@ -33,9 +36,11 @@ pub use env::{Env, NamedNumber};
 pub use expr::{BoolChoice, BoolExpr, BoolPair, LongChoice, LongExpr, LongPair};
 pub use fault::FaultKind;
 pub use inner::{Inner, InnerExpr, ListedValues, closed_range, range};
+pub use item::Item;
 pub use lambda::{Body, Lambda, PairForm};
 pub use names::references_decide;
 pub use operands::Operands;
 pub use operator::{BinaryOperator, Comparison, Connective, Faults, UnaryOperator};
+pub use places::values_decide;
 pub use run::Run;
 pub use wrapping::wrap_is_the_remainder_in_64_bits;

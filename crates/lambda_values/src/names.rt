@@ -6,7 +6,8 @@ ghost use Rattle.lambda_values.specs.Lambda.{body_of};
 ghost use Rattle.lambda_values.specs.Streams.{Inner, exprs_of, inner_of, inner_value};
 ghost use Rattle.lambda_values.specs.Term.{Long, Truth, long_of, truth_of};
 ghost use Rattle.lambda_values.specs.Value.{long_value, truth_value};
-ghost use Rattle.std.specs.Prelude.{◌≡◌, ◌++◌, [], ◌∷◌, IfOk, ℤ};
+ghost use Rattle.lambda_values.specs.declared.item.Item.{Item};
+ghost use Rattle.std.specs.Prelude.{◌≡◌, ◌++◌, [], ◌∷◌, IfOk};
 
 use super::expr::{BoolExpr, LongExpr};
 use super::inner::InnerExpr;
@@ -15,7 +16,11 @@ use std::alloc::{AllocError, Global};
 use stream_tokens::Bytes;
 
 // A name after the others.
-fn push_name(alloc: Global, name: &Bytes, names: &mut Vec<Bytes>) -> Result<(), AllocError>
+pub(crate) fn push_name(
+    alloc: Global,
+    name: &Bytes,
+    names: &mut Vec<Bytes>,
+) -> Result<(), AllocError>
     ensures { IfOk result (λ _. names.new.items ≡ names.old.items ++ name.now ∷ []) }
 {
     let copy = Vec::from_slice(alloc, name.as_slice())?;
@@ -31,7 +36,9 @@ impl LongExpr {
         ensures { IfOk result (λ _. names.new.items ≡ names.old.items ++ long_names (long_of self.now)) }
     {
         match self {
-            LongExpr::Number(_) | LongExpr::Parameter(_) => Ok(()),
+            LongExpr::Number(_) | LongExpr::Parameter(_) | LongExpr::Cell(_) | LongExpr::Row => Ok(
+                (),
+            ),
             LongExpr::Reference(name) => push_name(alloc, name, names),
             LongExpr::Unary(_, operand) => operand.push_names(alloc, names),
             LongExpr::Binary(_, pair) => {
@@ -116,12 +123,12 @@ impl Lambda {
     }
 }
 
-/// What an expression gives depends on the environment by the names of its references alone.
+/// What an expression gives depends on the environment by the names of its references and the table alone.
 pub fn references_decide()
-    ensures number { (e : Long) (x : ℤ) (a b : Numbers) →
+    ensures number { (e : Long) (x : Item) (a b : Numbers) →
         Agree (long_names e) a b → long_value e x a ≡ long_value e x b }
-    ensures boolean { (e : Truth) (x : ℤ) (a b : Numbers) →
+    ensures boolean { (e : Truth) (x : Item) (a b : Numbers) →
         Agree (truth_names e) a b → truth_value e x a ≡ truth_value e x b }
-    ensures stream { (g : Inner) (x : ℤ) (a b : Numbers) →
+    ensures stream { (g : Inner) (x : Item) (a b : Numbers) →
         Agree (inner_names g) a b → inner_value g x a ≡ inner_value g x b }
 {}

@@ -3,3 +3,4 @@ mod MergedLemmas
 mod NamedAnswers
 mod ReportLemmas
 mod UniqueReports
+mod RefusalLemmas

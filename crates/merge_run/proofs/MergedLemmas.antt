@@ -11,7 +11,7 @@ use Rattle.job_meaning.specs.declared.answer.Answer.{Answer}
 use Rattle.job_meaning.specs.declared.answer.Answer.TheVariants as answer
 use Rattle.job_meaning.specs.Walks.{fallback_as, fallback_of, instead_of_fault}
 use Rattle.report_merge.specs.Mergeable.{is_over_column}
-use Rattle.report_merge.specs.Merging.{Part, after, all_as_one, answer_beside, answers_beside, arrays_joined, as_one, beside, both, finished, firsts_joined, is_final, is_within, joined, merged, moved, numbers_joined, optionals_joined, part_with, truths_joined, with_fallback, with_fallbacks}
+use Rattle.report_merge.specs.Merging.{Part, after, all_as_one, answer_beside, answers_beside, arrays_joined, as_one, beside, both, finished, firsts_joined, is_final, is_within, first_part, joined, merged, moved, numbers_joined, optionals_joined, part_with, truths_joined, same_answer, with_fallback, with_fallbacks}
 
 nothing : {A B : Type 0} {x : A} → None ≡ Some x → B
 nothing e = absurd cc
@@ -132,13 +132,14 @@ module _ (P : Answer → Type 0) (number : (z : ℤ) → P (answer.Number z)) (t
   either true a c o p q e = subst P (the_same e) p
   either false a c o p q e = q e
 
-  other_way : (t : Bool) (a c : Answer) (o : Option Answer) → P a → (o ≡ Some c → P c) → (if t then o else Some a) ≡ Some c → P c
-  other_way true a c o p q e = q e
-  other_way false a c o p q e = subst P (the_same e) p
+  other_way : (t u : Bool) (a c : Answer) (o : Option Answer) → P a → (o ≡ Some c → P c) → (if t then o else if u then Some a else None) ≡ Some c → P c
+  other_way true u a c o p q e = q e
+  other_way false true a c o p q e = subst P (the_same e) p
+  other_way false false a c o p q e = nothing e
 
   of_beside : (job : AbstractJob) (before rows : ℕ) (a b c : Answer) → P a → answer_beside job before rows a b ≡ Some c → P c
   of_beside job before rows a b c p e =
-      other_way (is_over_column job) a c (beside job.terminal before rows a b) p
+      other_way (is_over_column job) (same_answer a b) a c (beside job.terminal before rows a b) p
       (either (is_final a job.terminal) a c (after b job.terminal before rows a) p (of_after job.terminal before rows a b c)) e
 
   of_all_beside : (jobs : List AbstractJob) (before rows : ℕ) (xs ys cs : List Answer) → Each P xs → answers_beside jobs before rows xs ys ≡ Some cs → Each P cs
@@ -207,11 +208,15 @@ module _ (P : Answer → Type 0) (number : (z : ℤ) → P (answer.Number z)) (t
   of_finished jobs None cs h e = nothing e
   of_finished jobs (Some p) cs h e = of_fallbacks jobs p.answers cs (h p refl) e
 
+  first_is : (t : Bool) (p r : Part) → (if t then None else Some p) ≡ Some r → p ≡ r
+  first_is true p r e = nothing e
+  first_is false p r e = the_same e
+
   pub of_merged : (jobs : List AbstractJob) (ps : List Part) (cs : List Answer) → EachPart P ps → merged jobs ps ≡ Some cs → Each P cs
   of_merged jobs [] cs h e = nothing e
   of_merged jobs (p ∷ ps) cs h e =
-      of_finished jobs (all_as_one jobs (Some p) ps) cs
-      (λ q one. of_all_as_one jobs (Some p) ps q (λ r is. subst (λ (t : Part). Each P t.answers) (the_same is) h.0) one) e
+      of_finished jobs (all_as_one jobs (first_part p) ps) cs
+      (λ q one. of_all_as_one jobs (first_part p) ps q (λ r is. subst (λ (t : Part). Each P t.answers) (first_is _ p r is) h.0) one) e
 
 with_each : (jobs : List AbstractJob) (xs cs : List Answer) → with_fallbacks jobs xs ≡ Some cs → length cs ≡ length jobs
 with_each [] [] cs e = ap length (sym (the_same e))
@@ -224,7 +229,7 @@ with_each (job ∷ jobs) (x ∷ xs) cs e =
 -- one answer for each job
 pub length_merged : (jobs : List AbstractJob) (ps : List Part) (cs : List Answer) → merged jobs ps ≡ Some cs → length cs ≡ length jobs
 length_merged jobs [] cs e = nothing e
-length_merged jobs (p ∷ ps) cs e = end (all_as_one jobs (Some p) ps) e
+length_merged jobs (p ∷ ps) cs e = end (all_as_one jobs (first_part p) ps) e
   where
     end : (o : Option Part) → finished jobs o ≡ Some cs → length cs ≡ length jobs
     end None h = nothing h

@@ -5,7 +5,8 @@ use Rattle.job_language.specs.Jobs.{AbstractJob, names_of}
 use Rattle.job_meaning.specs.declared.answer.Answer.{Answer}
 use Rattle.job_meaning.specs.FileAnswers.{meaning_of}
 use Rattle.merge_run.specs.declared.part_report.PartReport.{PartReport}
-use Rattle.merge_run.specs.Merged.{AreReportsOf, IsMergeOf, IsReportOf, IsTableOf}
+use Rattle.merge_run.specs.Merged.{ArePossible, AreReportsOf, IsMergeOf, IsReportOf, IsTableOf}
+use Rattle.report_merge.specs.Possible.{first_impossible}
 use Rattle.report.specs.Reports.{IsReport, report_in}
 use Rattle.report_merge.specs.Cuts.{IsCut}
 use Rattle.report_merge.specs.declared.part.PartAnswers.{PartAnswers}
@@ -24,15 +25,20 @@ reports_more names [] (q ∷ ps) r p all one = absurd all
 reports_more names (s ∷ rs) [] r p all one = absurd all
 reports_more names (s ∷ rs) (q ∷ ps) r p all one = (all.0, reports_more names rs ps r p all.1 one)
 
+-- answers that jobs can have
+pub possible_more : (jobs : List AbstractJob) (ps : List Part) (p : Part) → ArePossible jobs ps → first_impossible jobs p ≡ None → ArePossible jobs (ps ++ p ∷ [])
+possible_more jobs [] p h one = (one, tt)
+possible_more jobs (q ∷ ps) p h one = (h.0, possible_more jobs ps p h.1 one)
+
 -- the answers of the whole, printed, are the report of a run over it
 pub whole_report : (form : Form) (jobs : List AbstractJob) (parts : List Part) (answers : List Answer) (report : List ℕ)
     → report ≡ report_in form (names_of jobs) answers
-    → ((bytes : List ℕ) (over : List AbstractJob) → IsCut bytes jobs parts over → (answers ≡ meaning_of over) × (names_of jobs ≡ names_of over))
-    → (bytes file : List ℕ) → IsTableOf bytes jobs parts file
-    → IsReport (record { columns = Some file; jobs = bytes; form = form }) report
-whole_report form jobs parts answers report written means bytes file table =
+    → ((newest : ℕ) (bytes : List ℕ) (over : List AbstractJob) → IsCut newest bytes jobs parts over → (answers ≡ meaning_of over) × (names_of jobs ≡ names_of over))
+    → (newest : ℕ) (bytes file : List ℕ) → IsTableOf newest bytes jobs parts file
+    → IsReport (record { columns = Some file; jobs = bytes; asked = record { form = form; newest = newest } }) report
+whole_report form jobs parts answers report written means newest bytes file table =
     let over = table.cut.over in
-    let same = means bytes table.over table.cut in
+    let same = means newest bytes table.over table.cut in
     record {
       columns = over.columns;
       given = ap table_of table.read ∙ over.table;
@@ -42,17 +48,18 @@ whole_report form jobs parts answers report written means bytes file table =
     }
 
 pub merge_of : (form : Form) (jobs : List AbstractJob) (reports : List PartReport) (names : List (List ℕ)) (parts : List Part) (answers : List Answer) (report : List ℕ)
-    → names ≡ names_of jobs → first_unmergeable jobs ≡ None → AreReportsOf names reports parts → merged jobs parts ≡ Some answers
-    → ((bytes : List ℕ) (over : List AbstractJob) → first_unmergeable jobs ≡ None → IsCut bytes jobs parts over → (answers ≡ meaning_of over) × (names_of jobs ≡ names_of over))
-    → report ≡ report_in form names answers → IsMergeOf jobs reports form report
-merge_of form jobs reports names parts answers report same mergeable read whole means written =
+    → names ≡ names_of jobs → first_unmergeable jobs ≡ None → AreReportsOf names reports parts → ArePossible jobs parts → merged jobs parts ≡ Some answers
+    → ((newest : ℕ) (bytes : List ℕ) (over : List AbstractJob) → first_unmergeable jobs ≡ None → IsCut newest bytes jobs parts over → (answers ≡ meaning_of over) × (names_of jobs ≡ names_of over))
+    → report ≡ report_in form names answers → (newest : ℕ) → IsMergeOf newest jobs reports form report
+merge_of form jobs reports names parts answers report same mergeable read possible whole means written newest =
     let printed = written ∙ ap (λ (ns : List (List ℕ)). report_in form ns answers) same in
     record {
       mergeable = mergeable;
       parts = parts;
       read = subst (λ (ns : List (List ℕ)). AreReportsOf ns reports parts) same read;
+      possible = possible;
       answers = answers;
       whole = whole;
       written = printed;
-      of_table = whole_report form jobs parts answers report printed (λ bytes over cut. means bytes over mergeable cut);
+      of_table = whole_report form jobs parts answers report printed (λ version bytes over cut. means version bytes over mergeable cut) newest;
     }

@@ -15,7 +15,8 @@ use Rattle.serde_json.proofs.Texts.{print-outline}
 use Rattle.trace.specs.declared.item.Fault.{Fault}
 use Rattle.job_meaning.specs.declared.answer.Answer.{Answer}
 use Rattle.job_meaning.specs.declared.answer.Answer.TheVariants as answer
-use Rattle.report.specs.AnswerForms.{integer_json, job_json, kind_text, optional_json, place_json}
+use Rattle.lambda_values.specs.FaultTexts.{kind_text}
+use Rattle.report.specs.AnswerForms.{integer_json, job_json, optional_json, place_json}
 use Rattle.report.specs.Json.{jobs_json, report_json}
 use Rattle.merge_run.specs.Merged.{AreReportsOf}
 use Rattle.merge_run.specs.Small.{AllFit, ArePartsSmall, AreSmall, Fits, IsFirst, IsSmall, OptionFits, PlaceFits}

@@ -1,20 +1,25 @@
 -- Design: the report of a table, made of the reports of its parts.
-use Rattle.std.specs.Prelude.{◌≡◌, ◌≢◌, ℕ, List, [], ◌∷◌, None, Some, slice_index_or}
+use Rattle.std.specs.Prelude.{◌≡◌, ◌≢◌, ℕ, ◌+◌, ◌^◌, ◌<◌, List, [], ◌∷◌, ◌++◌, length, None, Some, slice_index_or}
 use Rattle.columns.specs.Cells.{records_of}
-use Rattle.columns.specs.Table.{NamedColumn}
-use Rattle.job_language.specs.Files.{IsRefused, SpellsJobs}
+use Rattle.tables.specs.Table.{NamedColumn}
+use Rattle.job_language.specs.Files.{IsRefusedWithin, SpellsJobsWithin}
 use Rattle.job_language.specs.Jobs.{AbstractJob, names_of}
 use Rattle.job_language.specs.declared.fault.Cause.TheVariants as cause
 use Rattle.job_language.specs.declared.fault.JobFault.{JobFault}
 use Rattle.job_meaning.specs.declared.answer.Answer.{Answer}
 use Rattle.merge_run.specs.declared.fault.ReportMergeFault.{ReportMergeFault}
 use Rattle.merge_run.specs.declared.fault.ReportMergeFault.TheVariants.{Jobs, Unmergeable as CannotMerge, NoPart, Part as OfPart, TooManyRows, NoMemory}
+use Rattle.merge_run.specs.declared.fault.PartCause.{PartCause}
+use Rattle.merge_run.specs.declared.fault.PartCause.TheVariants.{NoReport, Missing, MoreJobs, Impossible, Differs}
 use Rattle.merge_run.specs.declared.part_report.PartReport.{PartReport}
 use Rattle.report.specs.Json.{report_json}
 use Rattle.report.specs.Reports.{IsReport, report_in}
+use Rattle.report_merge.specs.declared.fault.MergeFault.{MergeFault}
+use Rattle.report_merge.specs.declared.fault.MergeFault.TheVariants as answers_fault
 use Rattle.report_merge.specs.Cuts.{AreBare, IsCut, all_rows}
 use Rattle.report_merge.specs.Mergeable.{first_unmergeable}
 use Rattle.report_merge.specs.Merging.{Part, merged}
+use Rattle.report_merge.specs.Possible.{first_impossible}
 use Rattle.report_merge.specs.declared.unmergeable.Unmergeable.{Unmergeable}
 use Rattle.run_settings.specs.declared.settings.Form.{Form}
 
@@ -30,57 +35,114 @@ AreReportsOf names [] (p ∷ ps) = ⊥
 AreReportsOf names (r ∷ rs) [] = ⊥
 AreReportsOf names (r ∷ rs) (p ∷ ps) = IsReportOf names r p × AreReportsOf names rs ps
 
--- the file is a table that has these parts, and their answers are what the jobs of these bytes mean over them; the jobs
--- of the list are over columns without cells
-pub record IsTableOf (bytes : List ℕ) (jobs : List AbstractJob) (parts : List Part) (file : List ℕ) : Type 0 where
+-- the file is a table that has these parts, and their answers are what the jobs of these bytes mean over them, where the
+-- newest version of the language is this; the jobs of the list are over columns without cells
+pub record IsTableOf (newest : ℕ) (bytes : List ℕ) (jobs : List AbstractJob) (parts : List Part) (file : List ℕ) : Type 0 where
   pub over : List AbstractJob
-  pub cut : IsCut bytes jobs parts over
+  pub cut : IsCut newest bytes jobs parts over
   pub read : records_of file ≡ cut.header ∷ all_rows cut.tables
+
+-- no answer of a part is one that its job can't have
+abbrev pub ArePossible : List AbstractJob → List Part → Type 0
+ArePossible jobs [] = Unit {0}
+ArePossible jobs (p ∷ ps) = (first_impossible jobs p ≡ None) × ArePossible jobs ps
 
 -- the report of what the answers of the parts are merged to: for each table that has these parts, it is the report of a
 -- run over this table
-pub record IsMergeOf (jobs : List AbstractJob) (reports : List PartReport) (form : Form) (report : List ℕ) : Type 0 where
+pub record IsMergeOf (newest : ℕ) (jobs : List AbstractJob) (reports : List PartReport) (form : Form) (report : List ℕ) : Type 0 where
   pub mergeable : first_unmergeable jobs ≡ None
   pub parts : List Part
   pub read : AreReportsOf (names_of jobs) reports parts
+  pub possible : ArePossible jobs parts
   pub answers : List Answer
   pub whole : merged jobs parts ≡ Some answers
   pub written : report ≡ report_in form (names_of jobs) answers
-  pub of_table : (bytes file : List ℕ) → IsTableOf bytes jobs parts file
-      → IsReport (record { columns = Some file; jobs = bytes; form = form }) report
+  pub of_table : (bytes file : List ℕ) → IsTableOf newest bytes jobs parts file
+      → IsReport (record { columns = Some file; jobs = bytes; asked = record { form = form; newest = newest } }) report
 
 -- the report that the reports of parts are merged to; the bytes of a job file spell the jobs over columns without cells
-pub record IsMerged (bytes : List ℕ) (reports : List PartReport) (form : Form) (report : List ℕ) : Type 0 where
+pub record IsMerged (newest : ℕ) (bytes : List ℕ) (reports : List PartReport) (form : Form) (report : List ℕ) : Type 0 where
   pub columns : List NamedColumn
   pub bare : AreBare columns
   pub jobs : List AbstractJob
-  pub spelled : SpellsJobs bytes columns jobs
-  pub merge : IsMergeOf jobs reports form report
+  pub spelled : SpellsJobsWithin newest bytes columns jobs
+  pub merge : IsMergeOf newest jobs reports form report
 
 -- over some columns without cells the reader of jobs refuses this line of the job file
-pub record IsRefusedAt (bytes : List ℕ) (line : ℕ) : Type 0 where
+pub record IsRefusedAt (newest : ℕ) (bytes : List ℕ) (line : ℕ) : Type 0 where
   pub columns : List NamedColumn
   pub bare : AreBare columns
   pub fault : JobFault
   pub known : fault.cause ≢ cause.NoMemory
-  pub refused : IsRefused bytes columns fault
+  pub refused : IsRefusedWithin newest bytes columns fault
   pub at : fault.line ≡ line
 
--- over some columns without cells the job with this name is the first one that can't be merged, for this reason
-pub record HasUnmergeable (bytes name : List ℕ) (reason : Unmergeable) : Type 0 where
-  pub columns : List NamedColumn
-  pub bare : AreBare columns
-  pub jobs : List AbstractJob
-  pub spelled : SpellsJobs bytes columns jobs
+-- the job with this name is the first one that can't be merged, for this reason
+pub record HasUnmergeable (jobs : List AbstractJob) (name : List ℕ) (reason : Unmergeable) : Type 0 where
   pub place : ℕ
   pub first : first_unmergeable jobs ≡ Some (place, reason)
   pub named : slice_index_or (names_of jobs) place [] ≡ name
 
--- why there is no report: what a refusal says of the job file is so
-abbrev pub IsMergeRefusal : List ℕ → ReportMergeFault → Type 0
-IsMergeRefusal bytes (Jobs line) = IsRefusedAt bytes line
-IsMergeRefusal bytes (CannotMerge name reason) = HasUnmergeable bytes name reason
-IsMergeRefusal bytes NoPart = Unit {0}
-IsMergeRefusal bytes (OfPart part reason) = Unit {0}
-IsMergeRefusal bytes TooManyRows = Unit {0}
-IsMergeRefusal bytes NoMemory = Unit {0}
+-- the report with this index says answers of which that of the job with this name is the first one that can't be its own
+pub record HasImpossible (jobs : List AbstractJob) (reports : List PartReport) (number : ℕ) (name : List ℕ) : Type 0 where
+  pub before : List PartReport
+  pub report : PartReport
+  pub later : List PartReport
+  pub all : reports ≡ before ++ report ∷ later
+  pub number_is : number ≡ length before
+  pub part : Part
+  pub read : IsReportOf (names_of jobs) report part
+  pub place : ℕ
+  pub first : first_impossible jobs part ≡ Some place
+  pub named : slice_index_or (names_of jobs) place [] ≡ name
+
+-- each report says answers that its jobs can have, but together they aren't merged: a job that reads no column has
+-- another answer in one of them
+pub record AreDifferent (jobs : List AbstractJob) (reports : List PartReport) : Type 0 where
+  pub parts : List Part
+  pub read : AreReportsOf (names_of jobs) reports parts
+  pub possible : ArePossible jobs parts
+  pub none : merged jobs parts ≡ None
+
+-- how many rows the parts have
+abbrev pub rows_of : List PartReport → ℕ
+rows_of [] = 0
+rows_of (r ∷ rs) = r.rows + rows_of rs
+
+-- why the report with this index isn't merged. Of bytes that are no report of these jobs it isn't said which they are
+abbrev pub IsPartRefused : List AbstractJob → List PartReport → ℕ → PartCause → Type 0
+IsPartRefused jobs reports part NoReport = Unit {0}
+IsPartRefused jobs reports part (Missing name) = Unit {0}
+IsPartRefused jobs reports part MoreJobs = Unit {0}
+IsPartRefused jobs reports part (Impossible name) = HasImpossible jobs reports part name
+IsPartRefused jobs reports part (Differs name) = AreDifferent jobs reports
+
+-- why there is no report of these jobs
+abbrev pub IsRefusalOf : List AbstractJob → List PartReport → ReportMergeFault → Type 0
+IsRefusalOf jobs reports (Jobs line) = ⊥
+IsRefusalOf jobs reports (CannotMerge name reason) = HasUnmergeable jobs name reason
+IsRefusalOf jobs reports NoPart = reports ≡ []
+IsRefusalOf jobs reports (OfPart part reason) = IsPartRefused jobs reports part reason
+IsRefusalOf jobs reports TooManyRows = 2 ^ 62 < rows_of reports
+IsRefusalOf jobs reports NoMemory = Unit {0}
+
+-- helper: what a refusal of the parts' answers is called
+abbrev pub called : List (List ℕ) → MergeFault → ReportMergeFault
+called names answers_fault.NoPart = NoPart
+called names answers_fault.TooManyRows = TooManyRows
+called names answers_fault.NoMemory = NoMemory
+called names (answers_fault.Part part job) = OfPart part (Differs (slice_index_or names job []))
+
+-- over some columns without cells the bytes spell jobs for which this is why there is no report
+pub record IsRefusalOver (newest : ℕ) (bytes : List ℕ) (reports : List PartReport) (fault : ReportMergeFault) : Type 0 where
+  pub columns : List NamedColumn
+  pub bare : AreBare columns
+  pub jobs : List AbstractJob
+  pub spelled : SpellsJobsWithin newest bytes columns jobs
+  pub refused : IsRefusalOf jobs reports fault
+
+-- why there is no report: what a refusal says of the job file and of the reports is so
+abbrev pub IsMergeRefusal : ℕ → List ℕ → List PartReport → ReportMergeFault → Type 0
+IsMergeRefusal newest bytes reports (Jobs line) = IsRefusedAt newest bytes line
+IsMergeRefusal newest bytes reports NoMemory = Unit {0}
+IsMergeRefusal newest bytes reports fault = IsRefusalOver newest bytes reports fault

@@ -3,13 +3,15 @@
 ghost use Rattle.std.specs.Prelude.{◌≡◌};
 ghost use Rattle.merge_run.specs.declared.fault.ReportMergeFault.TheVariants.{NoMemory};
 
-use crate::part_answers::ReportFault;
 use report_merge::Unmergeable;
 use std::alloc::{AllocError, AllocFailed};
+use std::fmt;
+use std::fmt::{Display, Formatter, Write};
 use stream_tokens::Bytes;
+use thiserror::Error;
 
-/// Why there is no report of the whole.
-#[derive(Debug, Drop)]
+/// Why there is no report of the whole. The message names no file.
+#[derive(Debug, Drop, Error)]
 pub enum ReportMergeFault {
     /// The job file is refused at this line.
     Jobs { line: u64 },
@@ -26,7 +28,7 @@ pub enum ReportMergeFault {
 }
 
 /// Why a part has no report of the jobs.
-#[derive(Debug, Drop)]
+#[derive(Debug, Drop, Error)]
 pub enum PartCause {
     /// The bytes aren't what `streamrun` writes as JSON.
     NoReport,
@@ -34,8 +36,50 @@ pub enum PartCause {
     Missing { job: Bytes },
     /// There are more answers than jobs.
     MoreJobs,
-    /// The job with this name has an answer that it can't have.
-    OtherKind { job: Bytes },
+    /// The job with this name has an answer that it can't have over the rows of the part.
+    Impossible { job: Bytes },
+    /// The job with this name, which reads no column, has another answer than in the parts before.
+    Differs { job: Bytes },
+}
+
+impl Display for ReportMergeFault {
+    fn fmt<W: Write>(&self, f: &mut Formatter<W>) -> fmt::Result {
+        match self {
+            ReportMergeFault::Jobs { line } => {
+                write!(f, "line {line} is refused; streamrun says why")
+            }
+            ReportMergeFault::Unmergeable { job, cause } => {
+                write!(f, "{} can't be merged: {cause}", text_of(job))
+            }
+            ReportMergeFault::NoPart => f.write_str("there is no report"),
+            ReportMergeFault::Part { part, cause } => write!(f, "report at index {part}: {cause}"),
+            ReportMergeFault::TooManyRows => f.write_str("more rows than a table has"),
+            ReportMergeFault::NoMemory => f.write_str("out of memory"),
+        }
+    }
+}
+
+impl Display for PartCause {
+    fn fmt<W: Write>(&self, f: &mut Formatter<W>) -> fmt::Result {
+        match self {
+            PartCause::NoReport => f.write_str("no report of streamrun --json"),
+            PartCause::Missing { job } => write!(f, "no answer of {} at its place", text_of(job)),
+            PartCause::MoreJobs => f.write_str("more answers than jobs"),
+            PartCause::Impossible { job } => write!(f, "{} can't have this answer", text_of(job)),
+            PartCause::Differs { job } => {
+                write!(
+                    f,
+                    "{} has another answer than in the reports before",
+                    text_of(job)
+                )
+            }
+        }
+    }
+}
+
+/// The text of a name; each name is ASCII.
+fn text_of(name: &Bytes) -> &str {
+    str::from_utf8(name.as_slice()).unwrap_or("")
 }
 
 impl From<AllocError> for ReportMergeFault {

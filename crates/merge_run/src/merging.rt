@@ -1,42 +1,45 @@
 //! The report of a whole table, from the reports of its parts.
 ghost use Rattle.std.specs.Prelude.{◌≡◌, ℕ, [], All, IfErr, IfOk, List, None, length, slice_index_or};
-ghost use Rattle.columns.specs.Table.{NamedColumn};
-ghost use Rattle.job_language.specs.Files.{SpellsJobs};
 ghost use Rattle.job_language.specs.Jobs.{jobs_of, names_of};
-ghost use Rattle.merge_run.specs.Merged.{AreReportsOf, IsMerged, IsMergeOf, IsMergeRefusal};
+ghost use Rattle.merge_run.specs.declared.part_report.PartReport.{PartReport as meant_report};
+ghost use Rattle.merge_run.specs.Merged.{ArePossible, AreReportsOf, IsMerged, IsMergeOf, IsMergeRefusal, IsRefusalOf};
+ghost use Rattle.merge_run.specs.Merged.{called};
 ghost use Rattle.report.specs.Named.{IsNamed, IsText};
 ghost use Rattle.report.specs.Reports.{report_in};
-ghost use Rattle.report_merge.specs.Cuts.{AreBare};
 ghost use Rattle.report_merge.specs.Mergeable.{first_unmergeable};
 ghost use Rattle.report_merge.specs.Merging.{parts_of};
+ghost use Rattle.run_settings.specs.SettingsParts.{newest_in};
 ghost use Rattle.stream_tokens.specs.Forms.{IsName};
 
 use crate::fault::{PartCause, ReportMergeFault};
 use crate::named_columns::columns_named;
 use crate::part_answers::{ReportFault, read_answers};
 use crate::part_report::PartReport;
-use job_language::{Cause, Job, read_jobs};
+use job_language::{Cause, Job, read_jobs_within};
 use job_meaning::Answer;
 use report::{NoMemory, json, text};
-use report_merge::{MergeFault as AnswersFault, PartAnswers, first_unmergeable, merge};
-use run_settings::Form;
+use report_merge::{
+    MergeFault as AnswersFault, PartAnswers, first_impossible, first_unmergeable, merge,
+};
+use run_settings::{Form, Language};
 use std::alloc::Global;
 use stream_tokens::Bytes;
 
-/// The report of the jobs of a file over a table, from the reports over its parts, in their order.
+/// The report of the jobs of a file of this language over a table, from the reports over its parts, in their order.
 ///
 /// The bytes of a part are dropped once its answers are read: then all answers are in memory, and the report.
 pub fn merged_report(
     alloc: Global,
     jobs: &[u8],
+    language: Language,
     parts: Vec<PartReport>,
     form: Form,
 ) -> Result<Vec<u8>, ReportMergeFault>
-    ensures ok { IfOk result (λ report. IsMerged jobs.now parts.items form report.items) }
-    ensures refused { IfErr result (λ fault. IsMergeRefusal jobs.now fault) }
+    ensures ok { IfOk result (λ report. IsMerged (newest_in language) jobs.now parts.items form report.items) }
+    ensures refused { IfErr result (λ fault. IsMergeRefusal (newest_in language) jobs.now parts.items fault) }
 {
-    let columns = columns_named(alloc, jobs)?;
-    let jobs = match read_jobs(alloc, jobs, &columns) {
+    let columns = columns_named(alloc, language.newest(), jobs)?;
+    let jobs = match read_jobs_within(alloc, jobs, &columns, language.newest()) {
         Ok(jobs) => jobs,
         Err(fault) if fault.cause == Cause::NoMemory => return Err(ReportMergeFault::NoMemory),
         Err(fault) => return Err(ReportMergeFault::Jobs { line: fault.line }),
@@ -52,9 +55,9 @@ fn merged_of(
     form: Form,
 ) -> Result<Vec<u8>, ReportMergeFault>
     requires { All IsName (names_of (jobs_of jobs.now)) }
-    ensures ok { IfOk result (λ report. IsMergeOf (jobs_of jobs.now) parts.items form report.items) }
-    ensures refused { IfErr result (λ fault. (bytes : List ℕ) (columns : List NamedColumn) → AreBare columns
-        → SpellsJobs bytes columns (jobs_of jobs.now) → IsMergeRefusal bytes fault) }
+    ensures ok { IfOk result (λ report. (newest : ℕ)
+        → IsMergeOf newest (jobs_of jobs.now) parts.items form report.items) }
+    ensures refused { IfErr result (λ fault. IsRefusalOf (jobs_of jobs.now) parts.items fault) }
 {
     match first_unmergeable(alloc, jobs)? {
         Some((job, cause)) => Err(ReportMergeFault::Unmergeable {
@@ -74,8 +77,9 @@ fn report_of(
 ) -> Result<Vec<u8>, ReportMergeFault>
     requires names { All IsName (names_of (jobs_of jobs.now)) }
     requires mergeable { first_unmergeable (jobs_of jobs.now) ≡ None }
-    ensures ok { IfOk result (λ report. IsMergeOf (jobs_of jobs.now) parts.items form report.items) }
-    ensures refused { IfErr result (λ fault. (bytes : List ℕ) → IsMergeRefusal bytes fault) }
+    ensures ok { IfOk result (λ report. (newest : ℕ)
+        → IsMergeOf newest (jobs_of jobs.now) parts.items form report.items) }
+    ensures refused { IfErr result (λ fault. IsRefusalOf (jobs_of jobs.now) parts.items fault) }
 {
     let names = names_in(alloc, jobs)?;
     let parts = answers_of(alloc, jobs, &names, parts)?;
@@ -104,17 +108,19 @@ fn printed(
     }
 }
 
-/// The answers of each part, and how many rows it has.
+/// The answers of each part, and how many rows it has. Each can be the answer of its job.
 fn answers_of(
     alloc: Global,
     jobs: &[Job],
     names: &[Bytes],
     parts: Vec<PartReport>,
 ) -> Result<Vec<PartAnswers>, ReportMergeFault>
-    requires { All IsText names.now }
+    requires text { All IsText names.now }
+    requires names { names.now ≡ names_of (jobs_of jobs.now) }
     ensures read { IfOk result (λ found. AreReportsOf names.now parts.items (parts_of found.items)) }
     ensures named { IfOk result (λ found. All (λ part. All (IsNamed names.now) part.answers.items) found.items) }
-    ensures refused { IfErr result (λ fault. (bytes : List ℕ) → IsMergeRefusal bytes fault) }
+    ensures possible { IfOk result (λ found. ArePossible (jobs_of jobs.now) (parts_of found.items)) }
+    ensures refused { IfErr result (λ fault. IsRefusalOf (jobs_of jobs.now) parts.items fault) }
 {
     let mut found = Vec::new(alloc);
     for part in parts {
@@ -122,10 +128,17 @@ fn answers_of(
             Ok(answers) => answers,
             Err(fault) => return Err(part_fault(alloc, jobs, found.len(), fault)?),
         };
-        found.push(PartAnswers {
-            rows: part.rows,
-            answers,
-        })?;
+        let rows = part.rows;
+        let read = PartAnswers { rows, answers };
+        if let Some(job) = first_impossible(alloc, jobs, &read)? {
+            let job = name_at(alloc, jobs, job)?;
+            let cause = PartCause::Impossible { job };
+            return Err(ReportMergeFault::Part {
+                part: found.len(),
+                cause,
+            });
+        }
+        found.push(read)?;
     }
     Ok(found)
 }
@@ -165,7 +178,7 @@ fn part_fault(
     part: usize,
     fault: ReportFault,
 ) -> Result<ReportMergeFault, NoMemory>
-    ensures { IfOk result (λ fault. (bytes : List ℕ) → IsMergeRefusal bytes fault) }
+    ensures { IfOk result (λ fault. (reports : List meant_report) → IsRefusalOf (jobs_of jobs.now) reports fault) }
 {
     let cause = match fault {
         ReportFault::NoMemory => return Ok(ReportMergeFault::NoMemory),
@@ -180,7 +193,7 @@ fn part_fault(
 
 /// Why the answers of the parts aren't merged.
 fn fault_of(alloc: Global, jobs: &[Job], fault: AnswersFault) -> Result<ReportMergeFault, NoMemory>
-    ensures { IfOk result (λ fault. (bytes : List ℕ) → IsMergeRefusal bytes fault) }
+    ensures { IfOk result (λ found. found ≡ called (names_of (jobs_of jobs.now)) fault) }
 {
     Ok(match fault {
         AnswersFault::NoPart => ReportMergeFault::NoPart,
@@ -188,7 +201,7 @@ fn fault_of(alloc: Global, jobs: &[Job], fault: AnswersFault) -> Result<ReportMe
         AnswersFault::NoMemory => ReportMergeFault::NoMemory,
         AnswersFault::Part { part, job } => ReportMergeFault::Part {
             part,
-            cause: PartCause::OtherKind {
+            cause: PartCause::Differs {
                 job: name_at(alloc, jobs, job)?,
             },
         },

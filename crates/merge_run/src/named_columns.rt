@@ -2,20 +2,19 @@
 ghost use Rattle.std.specs.Prelude.{◌<◌, IfOk, length};
 ghost use Rattle.report_merge.specs.Cuts.{AreBare};
 
-use columns::Columns;
 use std::alloc::{AllocError, Global};
 use stream_tokens::{CutText, JobTexts, Symbol, TextFault, TokenKind, cut};
+use tables::Columns;
 
-/// A column without cells for each name that stands in `column("..")` in a job file, so that its jobs can be read
-/// without their table.
+/// A column without cells for each name that stands in `column("..")` or `cell("..")` in a job file, so that its jobs
+/// can be read without their table. The newest version of the language is this.
 ///
 /// A file whose lines can't be listed has some of them: its reader says why.
-#[tactic(auto, using(crate::proofs::BareColumns::bare_under))]
-pub fn columns_named(alloc: Global, jobs: &[u8]) -> Result<Columns, AllocError>
+pub fn columns_named(alloc: Global, newest: u8, jobs: &[u8]) -> Result<Columns, AllocError>
     ensures { IfOk result AreBare }
 {
     let mut names = Vec::new(alloc);
-    match add_names_of(alloc, &mut names, jobs) {
+    match add_names_of(alloc, newest, &mut names, jobs) {
         Ok(()) | Err(TextFault::Syntax { .. }) => {}
         Err(TextFault::NoMemory) => return Err(AllocError),
     }
@@ -23,8 +22,13 @@ pub fn columns_named(alloc: Global, jobs: &[u8]) -> Result<Columns, AllocError>
 }
 
 /// Adds the names of columns in the jobs of a file.
-fn add_names_of(alloc: Global, names: &mut Vec<Vec<u8>>, jobs: &[u8]) -> Result<(), TextFault> {
-    let mut texts = JobTexts::of(jobs);
+fn add_names_of(
+    alloc: Global,
+    newest: u8,
+    names: &mut Vec<Vec<u8>>,
+    jobs: &[u8],
+) -> Result<(), TextFault> {
+    let mut texts = JobTexts::within(newest, jobs);
     while let Some(text) = texts.next_text(alloc)? {
         add_names_in(alloc, names, text.text.as_slice())?;
     }
@@ -59,10 +63,12 @@ fn unquoted(word: &[u8]) -> &[u8] {
     }
 }
 
-/// Whether these two tokens are `column` and `(`.
+/// Whether these two tokens are `column` or `cell`, and `(`.
 fn opens_column(text: &CutText<'_>, call: usize, bracket: usize) -> bool
     requires call { call < length text.now.tokens }
     requires bracket { bracket < length text.now.tokens }
 {
-    text.word(call) == b"column".as_slice() && text.kind(bracket) == TokenKind::Symbol(Symbol::Open)
+    let word = text.word(call);
+    (word == b"column".as_slice() || word == b"cell".as_slice())
+        && text.kind(bracket) == TokenKind::Symbol(Symbol::Open)
 }

@@ -6,7 +6,7 @@ ghost use Rattle.report.specs.Named.{IsNamed, IsText};
 
 use job_meaning::{Answer, Values};
 use lambda_values::FaultKind;
-use report::{NoMemory, json, kind_name};
+use report::{NoMemory, json};
 use serde::Deserialize;
 use std::alloc::{AllocFailed, Global};
 use stream_tokens::Bytes;
@@ -144,7 +144,7 @@ const KINDS: [FaultKind; 4] = [
 /// The kind of fault with this name.
 fn kind_of(name: &str) -> Option<FaultKind> {
     for kind in KINDS {
-        if kind_name(kind) == name {
+        if kind.name() == name {
             return Some(kind);
         }
     }

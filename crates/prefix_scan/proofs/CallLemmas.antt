@@ -1,6 +1,6 @@
 -- Pieces that are taken up and down with the range cut to each.
 use Rattle.std.proofs.Common.{◌≡◌, ℕ, suc, ℤ, ◌+◌, ◌<◌, false, cond, List, [], ◌∷◌, ◌++◌, length, Option, None, Result, Ok, sym, refl, ap, subst, ◌∙◌, arith}
-use Rattle.trace.specs.declared.item.Item.{Item}
+use Rattle.lambda_values.specs.declared.item.Item.{Item}
 use Rattle.trace.specs.declared.item.Fault.{Fault}
 use Rattle.trace.specs.declared.item.End.TheVariants as end
 use Rattle.trace.specs.Trace.{Trace, trace}

@@ -3,7 +3,7 @@ use Rattle.std.proofs.Common.{◌≡◌, ◌≢◌, ℕ, zero, suc, ℤ, ◌+◌
 use Rattle.std.proofs.lemmas.List.{take-append-drop, drop-set-lt, length-drop, length-set, length-take}
 use mathlib.Core.Logic.{dite}
 use native.Mathlib.Decide.{dec_le}
-use Rattle.trace.specs.declared.item.Item.{Item}
+use Rattle.lambda_values.specs.declared.item.Item.{Item}
 use Rattle.prefix_scan.specs.Prefixes.{Range, is_within, put_on, revalued}
 use Rattle.prefix_scan.specs.Scans.{AreWithin, fold_on, item_on, fold_at, scan_at}
 use Rattle.prefix_scan.proofs.ScanLemmas.{fold_more, scan_more}

@@ -1,7 +1,7 @@
 -- Folds and scans of values alone.
 use Rattle.std.proofs.Common.{◌≡◌, ◌≢◌, ℕ, suc, ℤ, ◌+◌, ◌<◌, ◌≤◌, Bool, true, false, List, [], ◌∷◌, ◌++◌, length, map, take, drop, get_or, set, Option, Some, refl, sym, ap, ◌∙◌, append_assoc, arith}
 use Rattle.std.proofs.lemmas.List.{take-append-drop, drop-set-lt, length-drop, length-set, length-take}
-use Rattle.trace.specs.declared.item.Item.{Item}
+use Rattle.lambda_values.specs.declared.item.Item.{Item}
 use Rattle.prefix_scan.specs.Prefixes.{Range, is_within, put_on}
 use Rattle.prefix_scan.specs.Scans.{AreWithin, fold_on, item_on, fold_at, scan_at, fold_value_on, value_on, fold_values_at, scan_values_at}
 use Rattle.prefix_scan.proofs.LoopLemmas.{Outside, later_outside, first_outside, none_within, drop_next, take_set}

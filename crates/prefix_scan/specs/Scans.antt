@@ -1,6 +1,6 @@
 -- Condition: folds and scans of a piece whose first item has some position.
 use Rattle.std.specs.Prelude.{◌≡◌, ℕ, suc, ℤ, ◌-◌, ◌<◌, ◌≤◌, min, Bool, true, false, if◌then◌else◌, List, [], ◌∷◌, Option, Some, None}
-use Rattle.trace.specs.declared.item.Item.{Item}
+use Rattle.lambda_values.specs.declared.item.Item.{Item}
 use Rattle.trace.specs.Trace.{Trace, trace}
 use Rattle.reduce_ops.specs.declared.partial.Partial.{Partial}
 use Rattle.reduce_ops.specs.Parts.{StandsFor as FoldStands}

@@ -4,7 +4,7 @@
 ghost use Rattle.std.specs.Prelude.{◌≡◌, ◌+◌, ◌<◌, ◌^◌, None, ℕ, List, length, flat_map};
 ghost use Rattle.trace.specs.Trace.{Trace, append, trace};
 ghost use Rattle.trace.specs.declared.item.End.TheVariants as end;
-ghost use Rattle.trace.specs.declared.item.Item.{Item as item};
+ghost use Rattle.lambda_values.specs.declared.item.Item.{Item as item};
 ghost use Rattle.reduce_ops.specs.Folds.{fold_items as folded_items};
 ghost use Rattle.reduce_ops.specs.Operators.{value_of};
 ghost use Rattle.reduce_ops.specs.Parts.{StandsFor as FoldStands};

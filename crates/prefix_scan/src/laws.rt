@@ -3,7 +3,7 @@
 ghost use Rattle.std.specs.Prelude.{◌≡◌, ◌++◌, ℕ, ℤ, false, List, Option, None, Ok, length};
 ghost use Rattle.trace.specs.Trace.{Trace, trace};
 ghost use Rattle.trace.specs.declared.item.End.TheVariants as end;
-ghost use Rattle.trace.specs.declared.item.Item.{Item};
+ghost use Rattle.lambda_values.specs.declared.item.Item.{Item};
 ghost use Rattle.reduce_ops.specs.declared.partial.Partial.{Partial};
 ghost use Rattle.reduce_ops.specs.Folds.{reduced};
 ghost use Rattle.reduce_ops.specs.Operators.{IsAssociative};

@@ -1,7 +1,7 @@
 //! Folds and scans of the items of a piece: one loop each, compiled for each operator that is used often.
 
 ghost use Rattle.std.specs.Prelude.{◌≡◌, List, map};
-ghost use Rattle.trace.specs.declared.item.Item.{Item as item};
+ghost use Rattle.lambda_values.specs.declared.item.Item.{Item as item};
 ghost use Rattle.reduce_ops.specs.Operators.{value_of};
 ghost use Rattle.prefix_scan.specs.Prefixes.{put_on};
 ghost use Rattle.prefix_scan.specs.Scans.{AreWithin, cut_to, fold_at, fold_values_at, scan_at, scan_values_at};

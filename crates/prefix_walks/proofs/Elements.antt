@@ -3,7 +3,7 @@ use Rattle.std.proofs.Common.{FitsSigned, w64, int_lt, unsigned_abs, ◌-ℤ◌,
 use Rattle.std.proofs.lemmas.Int.{ints}
 use Rattle.std.proofs.lemmas.List.{drop-drop, length-drop, take-append-drop, take-take, take_all}
 use borrow.Author.Differences.{fits_in, fits_out}
-use Rattle.trace.specs.declared.item.Item.{Item}
+use Rattle.lambda_values.specs.declared.item.Item.{Item}
 use Rattle.trace.specs.Cover.{distance, placed}
 use Rattle.trace.proofs.Sources.{length-placed}
 use Rattle.batch_eval.proofs.RangeLemmas.{drop_placed, take_placed}

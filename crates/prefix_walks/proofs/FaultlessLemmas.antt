@@ -2,9 +2,9 @@
 use Rattle.std.proofs.Common.{◌≡◌, ℕ, suc, ℤ, pos, ◌≤◌, if◌then◌else◌, Bool, true, false, not, List, [], ◌∷◌, ◌++◌, length, length-append, Result, Ok, Err, Option, Some, None, IfSome, refl, sym, ap, subst, ◌∙◌, le_trans, arith, ◌++◌, OnErr}
 use Rattle.std.specs.Ordering.{int_eq}
 use Rattle.std.specs.Prelude.{is_some}
-use Rattle.lambda_values.specs.Earlier.{Numbers}
+use Rattle.lambda_values.specs.Earlier.{Numbers, nothing_named}
 use Rattle.lambda_values.specs.Operators.{BinaryRule, UnaryRule, always, always_one, binary_by, binary_faults, binary_faults_by, binary_rule, binary_value, comparison_value, divided, exactly, exactly_one, on, unary_by, unary_faults, unary_faults_by, unary_rule, unary_value, unless_zero}
-use Rattle.lambda_values.specs.Term.{Long, number, reference, unary, binary, choose, Truth, compare, opposite, connect, choose_truth}
+use Rattle.lambda_values.specs.Term.{Long, number, reference, cell, row, unary, binary, choose, Truth, compare, opposite, connect, choose_truth}
 use Rattle.lambda_values.specs.Value.{chosen, long_value, truth_value}
 use Rattle.lambda_values.specs.declared.fault.FaultKind.{FaultKind}
 use Rattle.lambda_values.specs.declared.fault.FaultKind.TheVariants.{DivideByZero}
@@ -16,7 +16,7 @@ use Rattle.lambda_values.specs.declared.operator.Faults.TheVariants as faults
 use Rattle.lambda_values.specs.declared.operator.UnaryOperator.{UnaryOperator}
 use Rattle.trace.specs.Stages.{AbstractStage, map, filter, image, of_item, passed, pipe, through}
 use Rattle.trace.specs.Trace.{Trace, trace, append}
-use Rattle.trace.specs.declared.item.Item.{Item}
+use Rattle.lambda_values.specs.declared.item.Item.{Item}
 use Rattle.trace.specs.declared.item.End.{End}
 use Rattle.trace.specs.declared.item.End.TheVariants as end
 use Rattle.prefix_walks.specs.Faultless.{Agree, AreFaultless, HasTruths, HasValues, left_with, left_by}
@@ -67,7 +67,7 @@ divided_there o zero v w some = by (binary_rule o) zero
     by (unless_zero f) h = divides _
     by (exactly f) h = absurd cc
 
-pub divisor_value : (b : Long) (x : ℤ) (env : Numbers) (w : ℤ) → ((z : ℤ) × (b ≡ number z) × (int_eq z (pos 0) ≡ false)) → long_value b x env ≡ Ok w → int_eq w (pos 0) ≡ false
+pub divisor_value : (b : Long) (x : Item) (env : Numbers) (w : ℤ) → ((z : ℤ) × (b ≡ number z) × (int_eq z (pos 0) ≡ false)) → long_value b x env ≡ Ok w → int_eq w (pos 0) ≡ false
 divisor_value b x env w (z, e, some) is = subst (λ (y : ℤ). int_eq y (pos 0) ≡ false) (same (sym (ap (λ (a : Long). long_value a x env) e) ∙ is)) some
   where
     same : long_value (number z) x env ≡ Ok w → z ≡ w
@@ -83,13 +83,20 @@ pub reference_values : (names : Bool) (name : List ℕ) → names ≡ true → H
 reference_values true name h env x = (_, λ other same. ap (λ ns. long_value (reference name) x ns) same)
 reference_values false name h env x = absurd cc
 
+pub cell_values : (names : Bool) (name : List ℕ) → names ≡ true → HasValues names (cell name)
+cell_values true name h env x = (_, λ other same. ap (λ ns. long_value (cell name) x ns) same)
+cell_values false name h env x = absurd cc
+
+pub row_values : (names : Bool) → HasValues names row
+row_values names env x = (_, λ other same. refl)
+
 pub unary_values : (names : Bool) (o : UnaryOperator) (a : Long) → ((v : ℤ) → HasValue (unary_value o v)) → HasValues names a → HasValues names (unary o a)
 unary_values names o a total h env x =
     let v = h env x in
     let w = total v.0 in
     (w.0, λ other same. ap (λ r. on r (λ n. unary_value o n)) (v.1 other same) ∙ w.1)
 
-pub binary_values : (names : Bool) (o : BinaryOperator) (a b : Long) → ((x : ℤ) (env : Numbers) (v w : ℤ) → long_value b x env ≡ Ok w → HasValue (binary_value o v w)) → HasValues names a → HasValues names b
+pub binary_values : (names : Bool) (o : BinaryOperator) (a b : Long) → ((x : Item) (env : Numbers) (v w : ℤ) → long_value b x env ≡ Ok w → HasValue (binary_value o v w)) → HasValues names a → HasValues names b
     → HasValues names (binary o a b)
 binary_values names o a b total h k env x =
     let v = h env x in
@@ -97,7 +104,7 @@ binary_values names o a b total h k env x =
     let u = total x env v.0 w.0 (w.1 env (agrees names env)) in
     (u.0, λ other same. ap (λ r. on r (λ n. on (long_value b x other) (λ m. binary_value o n m))) (v.1 other same) ∙ ap (λ r. on r (λ m. binary_value o v.0 m)) (w.1 other same) ∙ u.1)
 
-choose_by : {A : Type 0} {S : Numbers → Type 0} (c : Truth) (x : ℤ) (p q : Numbers → Result A FaultKind) → ((b : Bool) × ((env : Numbers) → S env → truth_value c x env ≡ Ok b)) → ((v : A) × ((env : Numbers) → S env → p env ≡ Ok v))
+choose_by : {A : Type 0} {S : Numbers → Type 0} (c : Truth) (x : Item) (p q : Numbers → Result A FaultKind) → ((b : Bool) × ((env : Numbers) → S env → truth_value c x env ≡ Ok b)) → ((v : A) × ((env : Numbers) → S env → p env ≡ Ok v))
     → ((v : A) × ((env : Numbers) → S env → q env ≡ Ok v)) → (v : A) × ((env : Numbers) → S env → on (truth_value c x env) (λ t. chosen t (p env) (q env)) ≡ Ok v)
 choose_by c x p q (true, is) h k = (h.0, λ env s. ap (λ r. on r (λ t. chosen t (p env) (q env))) (is env s) ∙ h.1 env s)
 choose_by c x p q (false, is) h k = (k.0, λ env s. ap (λ r. on r (λ t. chosen t (p env) (q env))) (is env s) ∙ k.1 env s)
@@ -158,11 +165,11 @@ one_faultless names g makes item one = made_faultless names (g ∷ []) all walk 
 
 pub map_faultless : (names : Bool) (e : Long) → HasValues names e → AreFaultless names (map e ∷ [])
 map_faultless names e h =
-    one_faultless names (map e) (λ env x. record { origin = x.origin; value = (h env x.value).0 } ∷ []) (λ env n other same x. ap (image n x) ((h env x.value).1 other same)) (λ env x. omega arith)
+    one_faultless names (map e) (λ env x. record { origin = x.origin; value = (h env x).0 } ∷ []) (λ env n other same x. ap (image n x) ((h env x).1 other same)) (λ env x. omega arith)
 
 pub filter_faultless : (names : Bool) (p : Truth) → HasTruths names p → AreFaultless names (filter p ∷ [])
 filter_faultless names p h =
-    one_faultless names (filter p) (λ env x. kept (h env x.value).0 x) (λ env n other same x. ap (passed n x) ((h env x.value).1 other same) ∙ is_kept n x (h env x.value).0) (λ env x. one (h env x.value).0 x)
+    one_faultless names (filter p) (λ env x. kept (h env x).0 x) (λ env n other same x. ap (passed n x) ((h env x).1 other same) ∙ is_kept n x (h env x).0) (λ env x. one (h env x).0 x)
   where
     kept : Bool → Item → List Item
     kept true x = x ∷ []
@@ -180,12 +187,12 @@ filter_faultless names p h =
 
 pub left_none : (gs : List AbstractStage) → left_by gs [] ≡ []
 left_none gs =
-    let none : Numbers = [] in
+    let none : Numbers = nothing_named in
     ap (λ (t : Trace). t.items) (pipe_ended 0 gs none end.Done)
 
 pub left_both : (gs : List AbstractStage) → AreFaultless false gs → (xs ys : List Item) → left_by gs (xs ++ ys) ≡ left_by gs xs ++ left_by gs ys
 left_both gs h xs ys =
-    let none : Numbers = [] in
+    let none : Numbers = nothing_named in
     ap (λ (t : Trace). t.items) (pipe_more 0 gs none xs ys end.Done ∙ (λ i. append ((h none).0 0 none tt xs end.Done i) ((h none).0 0 none tt ys end.Done i)))
 
 -- ---- a sink that takes all

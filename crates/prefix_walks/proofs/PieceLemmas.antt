@@ -2,7 +2,7 @@
 use Rattle.std.proofs.Common.{◌≡◌, false, ℕ, zero, suc, ◌+◌, All, List, [], ◌∷◌, ◌++◌, append_assoc, take, drop, sym, ap, subst, ◌∙◌, arith}
 use Rattle.std.proofs.lemmas.List.Elements.{All-append}
 use Rattle.std.proofs.Math.Seq.{take-add}
-use Rattle.trace.specs.declared.item.Item.{Item}
+use Rattle.lambda_values.specs.declared.item.Item.{Item}
 use Rattle.trace.specs.Stages.{AbstractStage}
 use Rattle.prefix_walks.specs.declared.folded_piece.FoldedPiece.{FoldedPiece}
 use Rattle.prefix_walks.specs.Faultless.{AreFaultless, left_by}

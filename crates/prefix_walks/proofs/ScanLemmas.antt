@@ -2,7 +2,7 @@
 use Rattle.std.proofs.Common.{◌≡◌, ℕ, zero, suc, ℤ, true, false, cond, ◌+◌, ◌-◌, ◌<◌, ◌≤◌, List, [], ◌∷◌, ◌++◌, length, length-append, append_assoc, take, drop, get_or, slice_get, Option, Some, None, Ok, Err, sym, refl, ap, ◌∙◌, arith}
 use Rattle.std.proofs.lemmas.List.{take-append-drop}
 use Rattle.std.proofs.lemmas.List.Concat.{flat_map-append}
-use Rattle.trace.specs.declared.item.Item.{Item}
+use Rattle.lambda_values.specs.declared.item.Item.{Item}
 use Rattle.trace.specs.declared.item.Fault.{Fault}
 use Rattle.trace.specs.declared.item.End.TheVariants as end
 use Rattle.trace.specs.Trace.{trace, Trace, append}

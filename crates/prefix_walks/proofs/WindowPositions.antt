@@ -1,7 +1,7 @@
 -- Positions of the elements at positions of a list.
 use Rattle.std.proofs.Common.{◌≡◌, ℕ, zero, suc, ◌+◌, ◌-◌, ◌<◌, min, List, [], ◌∷◌, length, take, drop, Option, Some, None, sym, ap, ◌∙◌, arith}
 use Rattle.std.proofs.lemmas.List.{drop-drop, length-drop, length-take}
-use Rattle.trace.specs.declared.item.Item.{Item}
+use Rattle.lambda_values.specs.declared.item.Item.{Item}
 use Rattle.prefix_walks.specs.Pieces.{earlier, elements, moved, span}
 use Rattle.prefix_walks.proofs.Elements.{clamped, drop_taken, take_none, take_of_none}
 

@@ -1,6 +1,6 @@
 -- Condition: folds of the values of a batch.
 use Rattle.std.specs.Prelude.{ℤ, pos, Bool, true, false, List, [], ◌∷◌, Option, Some, None, fold}
-use Rattle.trace.specs.declared.item.Item.{Item}
+use Rattle.lambda_values.specs.declared.item.Item.{Item}
 use Rattle.reduce_ops.specs.Folds.{ones}
 
 -- a value, or a 1 in its place, as a count folds it

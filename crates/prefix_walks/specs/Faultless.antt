@@ -1,12 +1,12 @@
 -- Condition: expressions and stages that can't have a fault.
-use Rattle.std.specs.Prelude.{◌≡◌, ◌≤◌, ℕ, ℤ, Bool, true, false, List, [], length, Ok, ⊤}
+use Rattle.std.specs.Prelude.{◌≡◌, ◌≤◌, ℕ, ℤ, Bool, true, false, List, length, Ok, ⊤}
 use Rattle.std.specs.Coded.{×_prop, Π_prop, Coded-set}
 use Rattle.std.proofs.Props.{props}
-use Rattle.lambda_values.specs.Earlier.{Numbers}
+use Rattle.lambda_values.specs.Earlier.{Numbers, nothing_named}
 use Rattle.lambda_values.specs.Term.{Long, Truth}
 use Rattle.lambda_values.specs.Value.{long_value, truth_value}
 use Rattle.trace.specs.contracts.chunk.Chunk as chunks
-use Rattle.trace.specs.declared.item.Item.{Item}
+use Rattle.lambda_values.specs.declared.item.Item.{Item}
 use Rattle.trace.specs.declared.item.End.{End}
 use Rattle.trace.specs.declared.item.End.TheVariants as end
 use Rattle.trace.specs.Stages.{AbstractStage, pipe}
@@ -19,17 +19,17 @@ Agree false env other = ⊤
 
 -- at each item an expression, or a test, has a value and no fault: one value for all numbers of earlier jobs that agree
 abbrev pub HasValues : Bool → Long → Type 0
-HasValues names e = (env : Numbers) (x : ℤ) → (v : ℤ) × ((other : Numbers) → Agree names env other → long_value e x other ≡ Ok v)
+HasValues names e = (env : Numbers) (x : Item) → (v : ℤ) × ((other : Numbers) → Agree names env other → long_value e x other ≡ Ok v)
 
 abbrev pub HasTruths : Bool → Truth → Type 0
-HasTruths names p = (env : Numbers) (x : ℤ) → (b : Bool) × ((other : Numbers) → Agree names env other → truth_value p x other ≡ Ok b)
+HasTruths names p = (env : Numbers) (x : Item) → (b : Bool) × ((other : Numbers) → Agree names env other → truth_value p x other ≡ Ok b)
 
 -- what stages leave of items, with these numbers of earlier jobs, and without any
 abbrev pub left_with : Numbers → List AbstractStage → List Item → List Item
 left_with env gs xs = (pipe 0 gs env (trace xs end.Done)).items
 
 abbrev pub left_by : List AbstractStage → List Item → List Item
-left_by gs xs = left_with [] gs xs
+left_by gs xs = left_with nothing_named gs xs
 
 -- stages have no fault of their own: whatever their own numbers are, they leave one list of the items of a walk for all
 -- numbers of earlier jobs that agree, and no more items than it has

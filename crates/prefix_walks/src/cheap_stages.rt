@@ -27,7 +27,8 @@ pub struct CheapStages<'a> {
 }
 
 impl<'a> CheapStages<'a> {
-    /// These stages, if all of them are cheap, can't have a fault and name no earlier job.
+    /// These stages, if all of them are cheap, can't have a fault and name no earlier job. `None` is right of all
+    /// stages: that it isn't answered without need is speed, which no clause says.
     pub fn of(alloc: Global, stages: &'a [Stage]) -> Option<CheapStages<'a>>
         requires { length stages.now < 2 ^ 32 }
         ensures { IfSome result (λ cheap. cheap.stages.now ≡ stages.now) }

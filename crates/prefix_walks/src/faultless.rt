@@ -6,6 +6,7 @@ ghost use Rattle.lambda_values.specs.Earlier.{Numbers};
 ghost use Rattle.lambda_values.specs.Operators.{binary_value, unary_value};
 ghost use Rattle.lambda_values.specs.Term.{long_of, number, truth_of};
 ghost use Rattle.lambda_values.specs.Value.{long_value};
+ghost use Rattle.lambda_values.specs.declared.item.Item.{Item};
 ghost use Rattle.trace.specs.Stages.{stage_of, stages_of};
 ghost use Rattle.prefix_walks.specs.Faultless.{AreFaultless, HasTruths, HasValues};
 
@@ -20,7 +21,7 @@ pub fn are_faultless(stages: &[Stage]) -> bool
 }
 
 /// How many of these operators stages leave, if all of them are maps and filters that can't have a fault, and name
-/// earlier jobs only if `names` is set.
+/// earlier jobs and columns only if `names` is set.
 pub(crate) fn after_stages(stages: &[Stage], operators: u32, names: bool) -> Option<u32>
     ensures { IfSome result (λ _. AreFaultless names (stages_of stages.now)) }
 {
@@ -34,7 +35,7 @@ pub(crate) fn after_stages(stages: &[Stage], operators: u32, names: bool) -> Opt
 }
 
 /// How many of these operators a stage leaves, if it is a map or a filter that can't have a fault, and names earlier
-/// jobs only if `names` is set.
+/// jobs and columns only if `names` is set.
 fn after_stage(stage: &Stage, operators: u32, names: bool) -> Option<u32>
     ensures { IfSome result (λ _. AreFaultless names (stage_of stage.now ∷ [])) }
 {
@@ -45,8 +46,8 @@ fn after_stage(stage: &Stage, operators: u32, names: bool) -> Option<u32>
     }
 }
 
-/// How many of these operators an expression leaves, if it can't have a fault, and names earlier jobs only if `names`
-/// is set.
+/// How many of these operators an expression leaves, if it can't have a fault, and names earlier jobs and columns
+/// only if `names` is set.
 #[cycle(faultless)]
 fn after_long(expr: &LongExpr, operators: u32, names: bool) -> Option<u32>
     ensures { IfSome result (λ _. HasValues names (long_of expr.now)) }
@@ -54,8 +55,10 @@ fn after_long(expr: &LongExpr, operators: u32, names: bool) -> Option<u32>
     match expr {
         LongExpr::Number(_) => Some(operators),
         LongExpr::Parameter(_) => Some(operators),
+        LongExpr::Row => Some(operators),
         LongExpr::Reference(_) if names => Some(operators),
-        LongExpr::Reference(_) => None,
+        LongExpr::Cell(_) if names => Some(operators),
+        LongExpr::Reference(_) | LongExpr::Cell(_) => None,
         LongExpr::Unary(operator, operand) => {
             if !is_total(*operator) {
                 return None;
@@ -78,7 +81,8 @@ fn after_long(expr: &LongExpr, operators: u32, names: bool) -> Option<u32>
     }
 }
 
-/// How many of these operators a test leaves, if it can't have a fault, and names earlier jobs only if `names` is set.
+/// How many of these operators a test leaves, if it can't have a fault, and names earlier jobs and columns only if
+/// `names` is set.
 #[cycle(faultless)]
 fn after_test(test: &BoolExpr, operators: u32, names: bool) -> Option<u32>
     ensures { IfSome result (λ _. HasTruths names (truth_of test.now)) }
@@ -122,7 +126,7 @@ fn is_total(operator: UnaryOperator) -> bool
 
 /// Whether an operator has a value at every left operand, with this right one.
 fn is_total_by(operator: BinaryOperator, right: &LongExpr) -> bool
-    ensures { IsTrue result → (x : ℤ) (env : Numbers) (v w : ℤ) → long_value (long_of right.now) x env ≡ Ok w
+    ensures { IsTrue result → (x : Item) (env : Numbers) (v w : ℤ) → long_value (long_of right.now) x env ≡ Ok w
         → (u : ℤ) × (binary_value operator v w ≡ Ok u) }
 {
     match operator.faults() {
@@ -140,6 +144,8 @@ fn is_divisor(expr: &LongExpr) -> bool
         LongExpr::Number(number) => *number != 0,
         LongExpr::Parameter(_)
         | LongExpr::Reference(_)
+        | LongExpr::Cell(_)
+        | LongExpr::Row
         | LongExpr::Unary(..)
         | LongExpr::Binary(..)
         | LongExpr::Choose(..) => false,

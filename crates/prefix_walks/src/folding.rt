@@ -1,9 +1,9 @@
 //! Folds of the values of a batch, or of those whose flag is set: one loop, compiled for each operator.
 
 ghost use Rattle.batch_eval.specs.Batches.{flagged_values, holds};
-ghost use Rattle.std.specs.Prelude.{◌≡◌, ◌≤◌, IfSome, List, Some, fold, length, map};
+ghost use Rattle.std.specs.Prelude.{◌≡◌, ◌≤◌, IfNone, IfSome, List, None, Some, fold, length, map};
 ghost use Rattle.trace.specs.declared.item.End.TheVariants as end;
-ghost use Rattle.trace.specs.declared.item.Item.{Item as item};
+ghost use Rattle.lambda_values.specs.declared.item.Item.{Item as item};
 ghost use Rattle.trace.specs.Trace.{trace};
 ghost use Rattle.reduce_ops.specs.Operators.{identity_of, value_of};
 ghost use Rattle.reduce_ops.specs.Parts.{StandsFor};
@@ -72,6 +72,7 @@ fn fold_from(op: Op, counts: bool, start: i64, values: &[i64]) -> i64
 /// The fold of the values whose flag is set, or of a 1 for each of them. `None` if the operator has no identity, which
 /// the fold puts in the place of the other values.
 pub fn folded_flagged(op: Op, counts: bool, lanes: FlaggedLanes<'_>) -> Option<Partial>
+    ensures none { IfNone result (identity_of op ≡ None) }
     ensures op { IfSome result (λ right. right.op ≡ op) }
     ensures ending { IfSome result (λ right. right.end ≡ end.Done) }
     ensures stands { IfSome result (λ right. (xs : List item)

@@ -30,7 +30,7 @@ pub(crate) struct PieceBuffer {
 
 impl Model for PieceBuffer {
     ghost use Rattle.std.specs.Prelude.{List, take};
-    ghost use Rattle.trace.specs.declared.item.Item.{Item as item};
+    ghost use Rattle.lambda_values.specs.declared.item.Item.{Item as item};
     ghost use Rattle.prefix_walks.specs.Placing.{IsBuffer, items_at};
 
     ghost Value = { List item };

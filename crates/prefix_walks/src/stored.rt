@@ -20,7 +20,7 @@ pub struct Stored {
 
 impl Model for Stored {
     ghost use Rattle.std.specs.Prelude.{◌≤◌, List, length};
-    ghost use Rattle.trace.specs.declared.item.Item.{Item as item};
+    ghost use Rattle.lambda_values.specs.declared.item.Item.{Item as item};
     ghost use Rattle.prefix_walks.specs.Placing.{FitsPlaces, items_at};
 
     ghost Value = { List item };

@@ -1,7 +1,7 @@
 //! Positions of a list, side by side.
 
 ghost use Rattle.std.specs.Prelude.{◌≡◌, ◌≤◌, ◌<◌, ◌+◌, ◌-◌, ◌^◌, drop, length, take, IfNone, IfSome, List, None};
-ghost use Rattle.trace.specs.declared.item.Item.{Item as item};
+ghost use Rattle.lambda_values.specs.declared.item.Item.{Item as item};
 ghost use Rattle.prefix_walks.specs.Pieces.{after, elements};
 
 use crate::spans::{earlier, end_after, moved};

@@ -2,7 +2,7 @@
 use Rattle.std.specs.Prelude.{ℕ, ℤ, pos, ◌+ℤ◌, if◌then◌else◌, List, [], ◌∷◌, Some, Result, Ok, Err}
 use Rattle.lambda_values.specs.Operators.{is_long}
 use Rattle.lambda_values.specs.declared.fault.FaultKind.TheVariants as kind
-use Rattle.trace.specs.declared.item.Item.{Item}
+use Rattle.lambda_values.specs.declared.item.Item.{Item}
 use Rattle.trace.specs.declared.item.Fault.{Fault}
 use Rattle.trace.specs.declared.item.End.{End}
 use Rattle.trace.specs.Trace.{Trace}

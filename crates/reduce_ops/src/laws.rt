@@ -2,7 +2,7 @@
 
 ghost use Rattle.std.specs.Prelude.{◌≡◌, ℕ, ℤ, pos, Some, List, ◌++◌, length};
 ghost use Rattle.lambda_values.specs.Wrap.{wrap};
-ghost use Rattle.trace.specs.declared.item.Item.{Item};
+ghost use Rattle.lambda_values.specs.declared.item.Item.{Item};
 ghost use Rattle.reduce_ops.specs.declared.op.Op.{Op};
 ghost use Rattle.reduce_ops.specs.Operators.{value_of, identity_of, affine, map_of, IsAssociative, IsIdentity};
 ghost use Rattle.reduce_ops.specs.Folds.{fold_from, total, ones};

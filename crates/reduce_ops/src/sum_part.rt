@@ -12,7 +12,8 @@ use trace::{End, Fault, Item, SourceItems};
 
 /// What a piece of a stream gives to an exact sum.
 ///
-/// Its size doesn't depend on the piece, and no call takes memory.
+/// Its size doesn't depend on the piece, and no call takes memory. `Unknown` is right of every piece: that it isn't
+/// answered without need is speed, which no clause says.
 #[derive(Clone, Copy)]
 pub enum SumPart {
     /// Of a piece anywhere in the stream.

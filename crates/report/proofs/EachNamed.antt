@@ -112,7 +112,7 @@ each_named names before (job ∷ jobs) fits =
     let next : NamedAnswer = record { name = job.name; answer = answer_after before job } in
     let named = jobs_found before (names_in_job job) in
     let l = length-append before (next ∷ []) in (
-      (λ i is. let low = answer_low (first_unusable named) _ (length before) (λ k. first_low (length before) named k (jobs_low before (names_in_job job))) (usable_instead job.terminal job.on_fault _ (usable (suc (length job.stages)) (numbers_of named) job.terminal _)) i is in omega arith),
+      (λ i is. let low = answer_low (first_unusable named) _ (length before) (λ k. first_low (length before) named k (jobs_low before (names_in_job job))) (usable_instead job.terminal job.on_fault _ (usable (suc (length job.stages)) (record { earlier = numbers_of named; table = job.table }) job.terminal _)) i is in omega arith),
       each_named names (before ++ next ∷ []) jobs (omega arith),
     )
 

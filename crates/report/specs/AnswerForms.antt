@@ -4,8 +4,7 @@ use Rattle.std.specs.Fmt.{decimal, signed_decimal}
 use Rattle.serde_json.specs.Data.{Data, null, boolean, number, string, array, object, unsigned, member, no_members}
 use Rattle.serde_json.specs.Find.{of_integer}
 use Rattle.serde_json.specs.View.{items_of}
-use Rattle.lambda_values.specs.declared.fault.FaultKind.{FaultKind}
-use Rattle.lambda_values.specs.declared.fault.FaultKind.TheVariants.{DivideByZero, Overflow, OutOfArray, SourceTooLong}
+use Rattle.lambda_values.specs.FaultTexts.{kind_text}
 use Rattle.trace.specs.declared.item.Fault.{Fault}
 use Rattle.job_meaning.specs.declared.answer.Answer.{Answer}
 use Rattle.job_meaning.specs.declared.answer.Answer.TheVariants as answer
@@ -31,13 +30,6 @@ further separator (v ∷ vs) = separator ++ signed_decimal v ++ further separato
 abbrev pub array_text : List ℤ → List ℕ
 array_text [] = codes "[]"
 array_text (v ∷ vs) = codes "[" ++ signed_decimal v ++ further (codes ", ") vs ++ codes "]"
-
--- a kind of fault
-abbrev pub kind_text : FaultKind → List ℕ
-kind_text DivideByZero = codes "divide-by-zero"
-kind_text Overflow = codes "overflow"
-kind_text OutOfArray = codes "out-of-array"
-kind_text SourceTooLong = codes "source-too-long"
 
 -- the place of the item at which a fault was met, or a dash if it belongs to no item
 abbrev pub place_text : Option ℕ → List ℕ

@@ -2,22 +2,23 @@
 use Rattle.std.specs.Prelude.{◌≡◌, ℕ, List, [], Option, Some, None, Result, Ok}
 use Rattle.columns.specs.declared.fault.ColumnFault.{ColumnFault}
 use Rattle.columns.specs.Cells.{cells_of}
-use Rattle.columns.specs.Table.{NamedColumn}
-use Rattle.job_language.specs.Files.{SpellsJobs}
+use Rattle.tables.specs.Table.{NamedColumn}
+use Rattle.job_language.specs.Files.{SpellsJobsWithin}
 use Rattle.job_language.specs.Jobs.{AbstractJob, names_of}
 use Rattle.job_meaning.specs.declared.answer.Answer.{Answer}
 use Rattle.job_meaning.specs.FileAnswers.{meaning_of}
 use Rattle.report.specs.Json.{report_json}
 use Rattle.report.specs.Text.{report_text}
+use Rattle.run_settings.specs.Asked.{Asked}
 use Rattle.run_settings.specs.declared.settings.Form.{Form}
 use Rattle.run_settings.specs.declared.settings.Form.TheVariants as form
 
--- what a run is given: the bytes of the column file, if there is one, the bytes of the job file, and the form of the
--- report
+-- what a run is given: the bytes of the column file, if there is one, the bytes of the job file, and what its settings
+-- ask for
 pub record Input : Type 0 where
   pub columns : Option (List ℕ)
   pub jobs : List ℕ
-  pub form : Form
+  pub asked : Asked
 
 -- the columns of a file; without a file there are none
 abbrev pub columns_of : Option (List ℕ) → Result (List NamedColumn) ColumnFault
@@ -35,5 +36,5 @@ pub record IsReport (input : Input) (report : List ℕ) : Type 0 where
   pub columns : List NamedColumn
   pub given : columns_of input.columns ≡ Ok columns
   pub jobs : List AbstractJob
-  pub spelled : SpellsJobs input.jobs columns jobs
-  pub written : report ≡ report_in input.form (names_of jobs) (meaning_of jobs)
+  pub spelled : SpellsJobsWithin input.asked.newest input.jobs columns jobs
+  pub written : report ≡ report_in input.asked.form (names_of jobs) (meaning_of jobs)

@@ -1,20 +1,21 @@
 -- Design: small files of jobs, as terms of the definitions, and their reports.
 use Rattle.std.specs.Prelude.{ℕ, ℤ, pos, negsuc, List, [], ◌∷◌, codes, None, Some}
-use Rattle.lambda_values.specs.Term.{number, parameter, reference, binary, Truth, compare}
+use Rattle.lambda_values.specs.Term.{number, parameter, reference, cell, row, binary, Truth, compare}
 use Rattle.lambda_values.specs.declared.operator.BinaryOperator.TheVariants.{Add, Divide, Subtract}
 use Rattle.lambda_values.specs.declared.operator.Comparison.TheVariants.{Less, Greater}
 use Rattle.trace.specs.Stages.{map, filter}
 use Rattle.slice_ops.specs.Slices.{limit, skip, take_while, drop_while}
 use Rattle.reduce_ops.specs.declared.op.Op.TheVariants as op
+use Rattle.tables.specs.Table.{NamedColumn}
 use Rattle.job_language.specs.Jobs.{AbstractPlainSource, range, values, AbstractJobStage, item, slice, prefix, AbstractTerminal, sum, min, to_array, exact_sum, AbstractJob}
 
 -- helper: a job of one source
 abbrev pub job : List ℕ → AbstractPlainSource → List AbstractJobStage → AbstractTerminal → AbstractJob
-job name source stages terminal = record { name = name; sources = source ∷ []; stages = stages; terminal = terminal; on_fault = None }
+job name source stages terminal = record { name = name; sources = source ∷ []; stages = stages; terminal = terminal; on_fault = None; table = [] }
 
 -- helper: the job, with a number to give after a fault
 abbrev pub with_fallback : ℤ → AbstractJob → AbstractJob
-with_fallback z j = record { name = j.name; sources = j.sources; stages = j.stages; terminal = j.terminal; on_fault = Some z }
+with_fallback z j = record j { on_fault = Some z }
 
 -- helper: map(x -> a / (x - b))
 abbrev pub divided : ℤ → ℤ → AbstractJobStage
@@ -103,6 +104,28 @@ takes_a_part =
     ∷ job (codes "k") (range (pos 5) (pos 9)) (divided (pos 10) (pos 7) ∷ slice (skip 3) ∷ []) to_array
     ∷ job (codes "t") (range (pos 0) (pos 10)) (slice (drop_while (below (pos 3))) ∷ slice (take_while (below (pos 6))) ∷ slice (skip 1) ∷ []) to_array
     ∷ job (codes "w") (range (pos 0) (pos 10)) (slice (take_while (below (pos 2))) ∷ divided (pos 10) (pos 2) ∷ []) to_array
+    ∷ []
+
+-- a table of two columns: price 3, 5, 7 and quantity 4, 10, -1
+abbrev pub sold : List NamedColumn
+sold =
+    record { name = codes "price"; cells = pos 3 ∷ pos 5 ∷ pos 7 ∷ [] }
+    ∷ record { name = codes "quantity"; cells = pos 4 ∷ pos 10 ∷ negsuc 0 ∷ [] }
+    ∷ []
+
+-- helper: a job over the prices of the table
+abbrev pub over_prices : List ℕ → List AbstractJobStage → AbstractTerminal → AbstractJob
+over_prices name stages terminal = record (job name (values (pos 3 ∷ pos 5 ∷ pos 7 ∷ [])) stages terminal) { table = sold }
+
+-- r = column("price").filter(p -> cell("quantity") > 0).map(p -> p - cell("quantity")).toArray()
+-- p = column("price").filter(p -> p > 3).map(p -> row()).toArray()
+-- d = column("price").map(p -> p / (cell("quantity") - 10)).toArray()
+abbrev pub looks_at_rows : List AbstractJob
+looks_at_rows =
+    let quantity = cell (codes "quantity") in
+    over_prices (codes "r") (item (filter (compare Greater quantity (number (pos 0)))) ∷ item (map (binary Subtract (parameter 0) quantity)) ∷ []) to_array
+    ∷ over_prices (codes "p") (item (filter (compare Greater (parameter 0) (number (pos 3)))) ∷ item (map row) ∷ []) to_array
+    ∷ over_prices (codes "d") (item (map (binary Divide (parameter 0) (binary Subtract quantity (number (pos 10))))) ∷ []) to_array
     ∷ []
 
 -- a comment, an empty line, `version 2` between blanks, and a job of two lines

@@ -5,7 +5,7 @@ ghost use Rattle.serde_json.specs.Data.{member, no_members, object, put, string}
 ghost use Rattle.serde_json.specs.View.{view};
 ghost use Rattle.serde_json.specs.Written.{compact_text, has_float};
 ghost use Rattle.report.specs.AnswerForms.{answer_text, array_text, fault_json};
-ghost use Rattle.report.specs.AnswerForms.{fault_text, job_json, kind_text, optional_text};
+ghost use Rattle.report.specs.AnswerForms.{fault_text, job_json, optional_text};
 ghost use Rattle.report.specs.Named.{IsNamed, IsText};
 ghost use Rattle.report.specs.Numbers.{array_end, array_object};
 
@@ -14,7 +14,6 @@ use crate::numbers::{write_number, write_numbers};
 use crate::separator::Separator;
 use itoa::Buffer;
 use job_meaning::{Answer, Values};
-use lambda_values::FaultKind;
 use serde_json::{Map, Value, json};
 use std::alloc::Global;
 use stream_tokens::Bytes;
@@ -98,25 +97,13 @@ fn write_fault_text(report: &mut Vec<u8>, fault: Fault) -> Result<(), NoMemory>
     ensures { OnOk result (report.new.items ≡ report.old.items ++ fault_text fault) }
 {
     report.extend_from_slice(b"fault ")?;
-    report.extend_from_slice(kind_name(fault.kind).as_bytes())?;
+    report.extend_from_slice(fault.kind.name().as_bytes())?;
     report.extend_from_slice(b" stage ")?;
     write_count(report, u64::from(fault.stage))?;
     report.extend_from_slice(b" item ")?;
     match fault.origin {
         Some(place) => write_count(report, place),
         None => report.extend_from_slice(b"-"),
-    }
-}
-
-/// The name of a kind of fault, as every form of the report has it.
-pub fn kind_name(kind: FaultKind) -> &'static str
-    ensures { result.now ≡ kind_text kind }
-{
-    match kind {
-        FaultKind::DivideByZero => "divide-by-zero",
-        FaultKind::Overflow => "overflow",
-        FaultKind::OutOfArray => "out-of-array",
-        FaultKind::SourceTooLong => "source-too-long",
     }
 }
 
@@ -165,7 +152,7 @@ fn write_fault_object(report: &mut Vec<u8>, name: &str, fault: Fault) -> Result<
 fn fault_object(alloc: Global, name: &str, fault: Fault) -> Result<Value, NoMemory>
     ensures { IfOk result (λ v. view v ≡ fault_json name.now fault) }
 {
-    let kind = kind_name(fault.kind);
+    let kind = fault.kind.name();
     json!(in alloc; {"fault": kind, "item": fault.origin, "name": name, "stage": fault.stage})
 }
 

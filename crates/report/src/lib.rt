@@ -1,9 +1,9 @@
 //! The report of the answers, as text and as JSON.
 //!
-//! Stands on `job_meaning`, whose answers it prints, on `stream_tokens` for the bytes of a name, on `counted_io`, whose
-//! writers it gives out, on `itoa` for digits and on `serde_json`. Used by `engine` and `merge_run`. What it promises
-//! to them: `text` and `text_by` give exactly the bytes that `specs/Text.antt` defines, `json` and `json_by` the bytes
-//! of `specs/Json.antt`, and `write_report` writes them all, or says how many of the first ones went out.
+//! Stands on `job_meaning`, whose answers it prints, on `stream_tokens` for the bytes of a name, on `counted_io` for
+//! writers, on `itoa` for digits and on `serde_json`. Used by `engine` and `merge_run`. What it promises to them:
+//! `text` and `text_by` give exactly the bytes that `specs/Text.antt` defines, `json` and `json_by` the bytes of
+//! `specs/Json.antt`, and `write_report` writes them all, or says how many of the first ones went out.
 //! `specs/Reports.antt` defines the report of a run, over `columns`, `job_language` and `run_settings`.
 //! `specs/AnswerForms.antt` and `answer_forms.rt` say what an answer looks like in either form.
 //! Begin with these, then `as_text.rt`, and `draft.rt` for arrays that are printed on threads.
@@ -24,7 +24,6 @@ mod printable;
 mod separator;
 mod worked;
 
-pub use answer_forms::kind_name;
 pub use as_json::json;
 pub use as_text::text;
 pub use long_json::json_by;

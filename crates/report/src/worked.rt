@@ -5,6 +5,7 @@ ghost use Rattle.job_meaning.specs.FileAnswers.{meaning_of};
 ghost use Rattle.report.specs.Text.{report_text};
 ghost use Rattle.stream_tokens.specs.JobTexts.{job_texts_of, version_of};
 ghost use Rattle.report.specs.Worked.{adds_up, file_of_version_one, file_of_version_two, gives_a_number_for_a_fault};
+ghost use Rattle.report.specs.Worked.{looks_at_rows};
 ghost use Rattle.report.specs.Worked.{meets_a_zero, meets_no_zero, meets_two_zeros, names_two_bad_jobs};
 ghost use Rattle.report.specs.Worked.{passes_the_greatest, sums_exactly, takes_a_part};
 
@@ -27,7 +28,7 @@ pub fn worked_reports()
 /// and positions past the last item are a fault of the stage. A job is unusable because of the first bad job that it
 /// names. An exact sum has its fault at the item that takes it out of 64 bits, before a later fault of the walk. A
 /// number for a fault is an answer like others, and an empty optional stays. A slice that has ended meets no later
-/// fault; an item that is skipped still has one.
+/// fault; an item that is skipped still has one. A cell is of the row that the item came from, also after a filter.
 pub fn worked_reports_of_each_kind()
     ensures prefixes { report_text (names_of adds_up) (meaning_of adds_up)
         ≡ codes "p = [10, 1, 3, 6, 4]\no = fault out-of-array stage 1 item -\na = [10, 11, 13, 16, 20]\n" }
@@ -41,6 +42,8 @@ pub fn worked_reports_of_each_kind()
     ensures slices { report_text (names_of takes_a_part) (meaning_of takes_a_part)
         ≡ codes "l = [-1, -1, -2, -2, -3, -5, -10]\nh = fault divide-by-zero stage 1 item 7\n"
         ++ codes "k = fault divide-by-zero stage 1 item 2\nt = [4, 5]\nw = [-5, -10]\n" }
+    ensures rows { report_text (names_of looks_at_rows) (meaning_of looks_at_rows)
+        ≡ codes "r = [-1, -5]\np = [1, 2]\nd = fault divide-by-zero stage 1 item 1\n" }
 {}
 
 /// What the definitions give for the version of a file and for the texts of its jobs: `version 2` says it in the first

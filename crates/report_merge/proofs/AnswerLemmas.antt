@@ -6,10 +6,12 @@ use Rattle.std.specs.Option.{option_or}
 use Rattle.std.proofs.lemmas.Grind.{common_steps}
 use Rattle.lambda_values.specs.declared.fault.FaultKind.{FaultKind}
 use Rattle.lambda_values.specs.Earlier.{Numbers}
+use Rattle.lambda_values.specs.Places.{truth_is_placeless}
 use Rattle.lambda_values.specs.Term.{Truth}
 use Rattle.lambda_values.specs.Value.{truth_value}
 use Rattle.lambda_values.specs.Wrap.{wrap}
-use Rattle.trace.specs.declared.item.Item.{Item}
+use Rattle.lambda_values.specs.declared.item.Item.{Item}
+use Rattle.lambda_values.proofs.Placeless.{placeless_truth}
 use Rattle.trace.specs.declared.item.Fault.{Fault}
 use Rattle.trace.specs.declared.item.End.{End}
 use Rattle.trace.specs.declared.item.End.TheVariants as end
@@ -22,6 +24,7 @@ use Rattle.find_ops.specs.declared.find_part.Found.TheVariants as found
 use Rattle.find_ops.specs.Finds.{Find, first, any_match, all_match, none_match, answer_of_none, if_true, if_false, tested, decision, first_decision, decision_at_end, decision_of, decided_or}
 use Rattle.find_ops.proofs.DecisionLemmas.{decision_joined}
 use Rattle.job_language.specs.Jobs.{AbstractTerminal, sum, count, min, max, to_array, reduce, reduce_from, find, exact_sum}
+use Rattle.job_language.specs.Places.{terminal_is_placeless}
 use Rattle.job_meaning.specs.declared.answer.Answer.{Answer}
 use Rattle.job_meaning.specs.declared.answer.Answer.TheVariants as answer
 use Rattle.job_meaning.specs.Walks.{answer_of, found_answer, unless_fault}
@@ -83,9 +86,9 @@ none_decides n p x (Err f) = tt
 module _ (n : ℕ) (env : Numbers) where
   item_decides : (d : Find) (x : Item) → IsDecision d (decision d n env x)
   item_decides first x = refl
-  item_decides (any_match p) x = any_decides n p x (truth_value p x.value env)
-  item_decides (all_match p) x = all_decide n p x (truth_value p x.value env)
-  item_decides (none_match p) x = none_decides n p x (truth_value p x.value env)
+  item_decides (any_match p) x = any_decides n p x (truth_value p x env)
+  item_decides (all_match p) x = all_decide n p x (truth_value p x env)
+  item_decides (none_match p) x = none_decides n p x (truth_value p x env)
 
   or_decides : (d : Find) (u v : Option (Result Found Fault)) → IsDecision d u → IsDecision d v → IsDecision d (option_or u v)
   or_decides d None v h k = k
@@ -118,32 +121,39 @@ failed_later k n x a (Ok true) = refl
 failed_later k n x a (Ok false) = refl
 failed_later k n x a (Err f) = refl
 
+-- the test of a find has neither cells nor rows
+abbrev pub IsPlaceless : Find → Type 0
+IsPlaceless d = terminal_is_placeless (find d) ≡ true
+
 module _ (k n : ℕ) (env : Numbers) where
-  decision_later : (d : Find) (x : Item) → decision d n env (later_item k x) ≡ later_decision k (decision d n env x)
-  decision_later first x = refl
-  decision_later (any_match p) x = test_later k n x (found.Truth true) (truth_value p x.value env)
-  decision_later (all_match p) x = failed_later k n x (found.Truth false) (truth_value p x.value env)
-  decision_later (none_match p) x = test_later k n x (found.Truth false) (truth_value p x.value env)
+  test_same : (p : Truth) (x : Item) → truth_is_placeless p ≡ true → truth_value p (later_item k x) env ≡ truth_value p x env
+  test_same p x h = placeless_truth p (later_item k x) x env env refl refl h
+
+  decision_later : (d : Find) (x : Item) → IsPlaceless d → decision d n env (later_item k x) ≡ later_decision k (decision d n env x)
+  decision_later first x h = refl
+  decision_later (any_match p) x h = ap (tested n (later_item k x) (if_true (found.Truth true))) (test_same p x h) ∙ test_later k n x (found.Truth true) (truth_value p x env)
+  decision_later (all_match p) x h = ap (tested n (later_item k x) (if_false (found.Truth false))) (test_same p x h) ∙ failed_later k n x (found.Truth false) (truth_value p x env)
+  decision_later (none_match p) x h = ap (tested n (later_item k x) (if_true (found.Truth false))) (test_same p x h) ∙ test_later k n x (found.Truth false) (truth_value p x env)
 
   or_later : (u v : Option (Result Found Fault)) → option_or (later_decision k u) (later_decision k v) ≡ later_decision k (option_or u v)
   or_later None v = refl
   or_later (Some (Ok a)) v = refl
   or_later (Some (Err f)) v = refl
 
-  items_later : (d : Find) (xs : List Item) → first_decision d n env (later_items k xs) ≡ later_decision k (first_decision d n env xs)
-  items_later d [] = refl
-  items_later d (x ∷ xs) =
-      ap (λ o. option_or o (first_decision d n env (later_items k xs))) (decision_later d x)
-      ∙ ap (option_or (later_decision k (decision d n env x))) (items_later d xs)
+  items_later : (d : Find) (xs : List Item) → IsPlaceless d → first_decision d n env (later_items k xs) ≡ later_decision k (first_decision d n env xs)
+  items_later d [] h = refl
+  items_later d (x ∷ xs) h =
+      ap (λ o. option_or o (first_decision d n env (later_items k xs))) (decision_later d x h)
+      ∙ ap (option_or (later_decision k (decision d n env x))) (items_later d xs h)
       ∙ or_later (decision d n env x) (first_decision d n env xs)
 
   end_later : (e : End) → decision_at_end (later_end k e) ≡ later_decision k (decision_at_end e)
   end_later end.Done = refl
   end_later (end.Fault f) = refl
 
-  walk_later : (d : Find) (t : Trace) → decision_of d n env (later k t) ≡ later_decision k (decision_of d n env t)
-  walk_later d t =
-      ap (λ o. option_or o (decision_at_end (later_end k t.ending))) (items_later d t.items)
+  walk_later : (d : Find) (t : Trace) → IsPlaceless d → decision_of d n env (later k t) ≡ later_decision k (decision_of d n env t)
+  walk_later d t h =
+      ap (λ o. option_or o (decision_at_end (later_end k t.ending))) (items_later d t.items h)
       ∙ ap (option_or (later_decision k (first_decision d n env t.items))) (end_later t.ending)
       ∙ or_later (first_decision d n env t.items) (decision_at_end t.ending)
 
@@ -166,9 +176,9 @@ false_within m n x a (Err f) h = h
 module _ (m n : ℕ) (env : Numbers) where
   decision_within : (d : Find) (x : Item) → x.origin < m → FaultWithin m (decision d n env x)
   decision_within first x h = tt
-  decision_within (any_match p) x h = true_within m n x (found.Truth true) (truth_value p x.value env) h
-  decision_within (all_match p) x h = false_within m n x (found.Truth false) (truth_value p x.value env) h
-  decision_within (none_match p) x h = true_within m n x (found.Truth false) (truth_value p x.value env) h
+  decision_within (any_match p) x h = true_within m n x (found.Truth true) (truth_value p x env) h
+  decision_within (all_match p) x h = false_within m n x (found.Truth false) (truth_value p x env) h
+  decision_within (none_match p) x h = true_within m n x (found.Truth false) (truth_value p x env) h
 
   or_within : (u v : Option (Result Found Fault)) → FaultWithin m u → FaultWithin m v → FaultWithin m (option_or u v)
   or_within None v h k = k
@@ -230,24 +240,49 @@ same_number (Some i) a h = ap Some (equal i a (int_eq i a) refl h)
     equal i a false e h = absurd cc
 
 -- the answers over two walks, merged: the answer over both as one, where the second begins k places later
-pub answers_join : (d : AbstractTerminal) (n : ℕ) (env : Numbers) (k m : ℕ) (t u : Trace) → terminal_cause d ≡ None → Within m u
+pub answers_join : (d : AbstractTerminal) (n : ℕ) (env : Numbers) (k m : ℕ) (t u : Trace) → terminal_cause d ≡ None → terminal_is_placeless d ≡ true → Within m u
     → beside d k m (answer_of n env d t) (answer_of n env d u) ≡ Some (answer_of n env d (append t (later k u)))
-answers_join sum n env k m t u c w =
+answers_join sum n env k m t u c p w =
     ends_join sum (λ (xs : List Item). answer.Number (wrap (total xs))) k m (λ xs. refl) (λ a ys. refl) (λ xs ys. ap (λ z. Some (answer.Number z)) (sums_join k xs ys)) t.items t.ending u.items u.ending w.ending
-answers_join count n env k m t u c w =
+answers_join count n env k m t u c p w =
     ends_join count (λ (xs : List Item). answer.Number (wrap (pos (length xs)))) k m (λ xs. refl) (λ a ys. refl) (λ xs ys. ap (λ z. Some (answer.Number z)) (counts_join k xs ys)) t.items t.ending u.items u.ending w.ending
-answers_join min n env k m t u c w =
+answers_join min n env k m t u c p w =
     ends_join min (λ (xs : List Item). answer.Optional (fold_items (value_of op.Min) xs)) k m (λ xs. refl) (λ a ys. refl) (λ xs ys. ap (λ o. Some (answer.Optional o)) (optionals_join op.Min k xs ys)) t.items t.ending u.items u.ending w.ending
-answers_join max n env k m t u c w =
+answers_join max n env k m t u c p w =
     ends_join max (λ (xs : List Item). answer.Optional (fold_items (value_of op.Max) xs)) k m (λ xs. refl) (λ a ys. refl) (λ xs ys. ap (λ o. Some (answer.Optional o)) (optionals_join op.Max k xs ys)) t.items t.ending u.items u.ending w.ending
-answers_join to_array n env k m t u c w =
+answers_join to_array n env k m t u c p w =
     ends_join to_array (λ (xs : List Item). answer.Array (each_of (λ (x : Item). x.value) xs)) k m (λ xs. refl) (λ a ys. refl) (λ xs ys. ap (λ (vs : List ℤ). Some (answer.Array vs)) (values_join k xs ys)) t.items t.ending u.items u.ending w.ending
-answers_join (reduce f) n env k m t u c w =
+answers_join (reduce f) n env k m t u c p w =
     ends_join (reduce f) (λ (xs : List Item). answer.Optional (fold_items (value_of f) xs)) k m (λ xs. refl) (λ a ys. refl) (λ xs ys. ap (λ o. Some (answer.Optional o)) (optionals_join f k xs ys)) t.items t.ending u.items u.ending w.ending
-answers_join (reduce_from a f) n env k m t u c w =
+answers_join (reduce_from a f) n env k m t u c p w =
     let e = same_number (identity_of f) a c in
     ends_join (reduce_from a f) (λ (xs : List Item). answer.Number (fold_from (value_of f) a xs)) k m (λ xs. refl) (λ b ys. refl) (λ xs ys. ap (λ z. Some (answer.Number z)) (folds_join f a k xs ys e)) t.items t.ending u.items u.ending w.ending
-answers_join (find d) n env k m t u c w =
+answers_join (find d) n env k m t u c p w =
     finds_join d k m (decision_of d n env t) (decision_of d n env u) (walk_decides n env d t) (walk_decides n env d u) (walk_within m n env d u w)
-    ∙ ap (λ o. Some (answered d o)) (ap (option_or (decision_of d n env t)) (sym (walk_later k n env d u)) ∙ sym (decision_joined d n env t (later k u)))
-answers_join exact_sum n env k m t u c w = absurd cc
+    ∙ ap (λ o. Some (answered d o)) (ap (option_or (decision_of d n env t)) (sym (walk_later k n env d u p)) ∙ sym (decision_joined d n env t (later k u)))
+answers_join exact_sum n env k m t u c p w = absurd cc
+
+-- ---- over another table
+
+module _ (n : ℕ) (a b : Numbers) (same : a.earlier ≡ b.earlier) where
+  decision_over : (d : Find) (x : Item) → IsPlaceless d → decision d n a x ≡ decision d n b x
+  decision_over first x p = refl
+  decision_over (any_match t) x p = ap (tested n x (if_true (found.Truth true))) (placeless_truth t x x a b refl same p)
+  decision_over (all_match t) x p = ap (tested n x (if_false (found.Truth false))) (placeless_truth t x x a b refl same p)
+  decision_over (none_match t) x p = ap (tested n x (if_true (found.Truth false))) (placeless_truth t x x a b refl same p)
+
+  items_over : (d : Find) (xs : List Item) → IsPlaceless d → first_decision d n a xs ≡ first_decision d n b xs
+  items_over d [] p = refl
+  items_over d (x ∷ xs) p = λ i. option_or (decision_over d x p i) (items_over d xs p i)
+
+  -- a terminal without cells and rows doesn't look at the table
+  pub answer_over : (d : AbstractTerminal) (t : Trace) → terminal_is_placeless d ≡ true → answer_of n a d t ≡ answer_of n b d t
+  answer_over sum t p = refl
+  answer_over count t p = refl
+  answer_over min t p = refl
+  answer_over max t p = refl
+  answer_over to_array t p = refl
+  answer_over (reduce f) t p = refl
+  answer_over (reduce_from i f) t p = refl
+  answer_over (find d) t p = ap (λ o. answered d (option_or o (decision_at_end t.ending))) (items_over d t.items p)
+  answer_over exact_sum t p = refl

@@ -6,7 +6,8 @@ use Rattle.std.specs.Str.{bytes_eq}
 use Rattle.std.proofs.lemmas.List.{map-append}
 use Rattle.columns.specs.declared.fault.ColumnFault.{ColumnFault}
 use Rattle.columns.specs.Refusals.{header_fault, rows_fault}
-use Rattle.columns.specs.Table.{NamedColumn, cells_named, columns_under, first_number, table_of, unless}
+use Rattle.columns.specs.Table.{columns_under, first_number, table_of, unless}
+use Rattle.tables.specs.Table.{NamedColumn, cells_named}
 use Rattle.std.specs.Option.{option_or}
 use Rattle.report_merge.specs.Cuts.{AreBare, Row}
 

@@ -1,10 +1,12 @@
--- Walks that begin at a later place, and places that lie within a number of rows.
-use Rattle.std.proofs.Common.{◌≡◌, ℕ, suc, ◌+◌, ◌<◌, ◌≤◌, ◌^◌, ℤ, Bool, true, false, List, [], ◌∷◌, ◌++◌, length, Option, Some, None, Result, Ok, Err, refl, sym, ap, ◌∙◌, append-nil, arith}
+-- Walks that begin at a later place, walks over other tables, and places that lie within a number of rows.
+use Rattle.std.proofs.Common.{◌≡◌, ℕ, suc, ◌+◌, ◌<◌, ◌≤◌, ◌^◌, ℤ, Bool, true, false, ◌&&◌, List, [], ◌∷◌, ◌++◌, length, Option, Some, None, Result, Ok, Err, refl, sym, ap, ◌∙◌, append-nil, arith}
+use Rattle.std.specs.List.{list_all}
 use Rattle.lambda_values.specs.declared.fault.FaultKind.{FaultKind}
 use Rattle.lambda_values.specs.Earlier.{Numbers}
 use Rattle.lambda_values.specs.Streams.{inner_value}
 use Rattle.lambda_values.specs.Value.{long_value, truth_value}
-use Rattle.trace.specs.declared.item.Item.{Item}
+use Rattle.lambda_values.specs.declared.item.Item.{Item}
+use Rattle.lambda_values.proofs.Placeless.{placeless_inner, placeless_long, placeless_truth}
 use Rattle.trace.specs.declared.item.End.{End}
 use Rattle.trace.specs.declared.item.End.TheVariants as end
 use Rattle.trace.specs.Cover.{placed, cover, values as listed}
@@ -13,6 +15,7 @@ use Rattle.trace.specs.Trace.{Trace, trace, then_on, append, each}
 use Rattle.trace.proofs.CoverLemmas.{cover_short}
 use Rattle.trace.proofs.JoinLemmas.{each_append}
 use Rattle.job_language.specs.Jobs.{AbstractPlainSource, AbstractJobStage, item, slice, prefix}
+use Rattle.job_language.specs.Places.{stage_is_placeless}
 use Rattle.job_meaning.specs.Walks.{after_stages, plain_values, source_walk}
 use Rattle.report_merge.specs.Mergeable.{are_items}
 use Rattle.report_merge.specs.Merging.{moved}
@@ -61,28 +64,62 @@ flattened_later : (k n : ℕ) (x : Item) (r : Result (List ℤ) FaultKind) → f
 flattened_later k n x (Ok vs) = ap (λ (zs : List Item). trace zs end.Done) (place_later k x.origin vs)
 flattened_later k n x (Err f) = refl
 
-item_later : (k n : ℕ) (g : AbstractStage) (env : Numbers) (x : Item) → of_item n g env (later_item k x) ≡ later k (of_item n g env x)
-item_later k n (map e) env x = image_later k n x (long_value e x.value env)
-item_later k n (filter p) env x = passed_later k n x (truth_value p x.value env)
-item_later k n (flat_map g) env x = flattened_later k n x (inner_value g x.value env)
+-- a stage without cells and rows sees the value of the item alone
+abbrev pub IsPlaceless : AbstractStage → Type 0
+IsPlaceless g = stage_is_placeless (item g) ≡ true
 
-each_later : (k n : ℕ) (g : AbstractStage) (env : Numbers) (xs : List Item) (e : End) → each (of_item n g env) (later_items k xs) (later_end k e) ≡ later k (each (of_item n g env) xs e)
-each_later k n g env [] e = refl
-each_later k n g env (x ∷ xs) e =
-    ap (λ (t : Trace). append t (each (of_item n g env) (later_items k xs) (later_end k e))) (item_later k n g env x)
-    ∙ ap (append (later k (of_item n g env x))) (each_later k n g env xs e)
+item_later : (k n : ℕ) (g : AbstractStage) (env : Numbers) (x : Item) → IsPlaceless g → of_item n g env (later_item k x) ≡ later k (of_item n g env x)
+item_later k n (map e) env x p = ap (image n (later_item k x)) (placeless_long e (later_item k x) x env env refl refl p) ∙ image_later k n x (long_value e x env)
+item_later k n (filter t) env x p = ap (passed n (later_item k x)) (placeless_truth t (later_item k x) x env env refl refl p) ∙ passed_later k n x (truth_value t x env)
+item_later k n (flat_map g) env x p = ap (flattened n (later_item k x)) (placeless_inner g (later_item k x) x env env refl refl p) ∙ flattened_later k n x (inner_value g x env)
+
+each_later : (k n : ℕ) (g : AbstractStage) (env : Numbers) (xs : List Item) (e : End) → IsPlaceless g → each (of_item n g env) (later_items k xs) (later_end k e) ≡ later k (each (of_item n g env) xs e)
+each_later k n g env [] e p = refl
+each_later k n g env (x ∷ xs) e p =
+    ap (λ (t : Trace). append t (each (of_item n g env) (later_items k xs) (later_end k e))) (item_later k n g env x p)
+    ∙ ap (append (later k (of_item n g env x))) (each_later k n g env xs e p)
     ∙ sym (later_append k (of_item n g env x) (each (of_item n g env) xs e))
+
+-- of several stages the first one, and then the others
+pub first_placeless : (g : AbstractJobStage) (gs : List AbstractJobStage) → list_all stage_is_placeless (g ∷ gs) ≡ true → (stage_is_placeless g ≡ true) × (list_all stage_is_placeless gs ≡ true)
+first_placeless g gs h = both (stage_is_placeless g) (list_all stage_is_placeless gs) h
+  where
+    both : (a b : Bool) → (a && b) ≡ true → (a ≡ true) × (b ≡ true)
+    both true b h = (refl, h)
+    both false b h = absurd (let z : false ≡ true = h in cc)
 
 no_slice : {A : Type 0} → false ≡ true → A
 no_slice h = absurd (let z : false ≡ true = h in cc)
 
--- stages that look at one item at a time don't look at its place
-pub stages_later : (k n : ℕ) (gs : List AbstractJobStage) (env : Numbers) (t : Trace) → are_items gs ≡ true → after_stages n gs env (later k t) ≡ later k (after_stages n gs env t)
-stages_later k n [] env t good = refl
-stages_later k n (item g ∷ gs) env t good =
-    ap (after_stages (suc n) gs env) (each_later k n g env t.items t.ending) ∙ stages_later k (suc n) gs env (through n g env t) good
-stages_later k n (slice d ∷ gs) env t good = no_slice good
-stages_later k n (prefix r f ∷ gs) env t good = no_slice good
+-- stages that look at one item at a time, without cells and rows, don't look at its place
+pub stages_later : (k n : ℕ) (gs : List AbstractJobStage) (env : Numbers) (t : Trace) → are_items gs ≡ true → list_all stage_is_placeless gs ≡ true → after_stages n gs env (later k t) ≡ later k (after_stages n gs env t)
+stages_later k n [] env t good p = refl
+stages_later k n (item g ∷ gs) env t good p =
+    let parts = first_placeless (item g) gs p in
+    ap (after_stages (suc n) gs env) (each_later k n g env t.items t.ending parts.0) ∙ stages_later k (suc n) gs env (through n g env t) good parts.1
+stages_later k n (slice d ∷ gs) env t good p = no_slice good
+stages_later k n (prefix r f ∷ gs) env t good p = no_slice good
+
+-- ---- over another table
+
+module _ (a b : Numbers) (same : a.earlier ≡ b.earlier) where
+  item_over : (n : ℕ) (g : AbstractStage) (x : Item) → IsPlaceless g → of_item n g a x ≡ of_item n g b x
+  item_over n (map e) x p = ap (image n x) (placeless_long e x x a b refl same p)
+  item_over n (filter t) x p = ap (passed n x) (placeless_truth t x x a b refl same p)
+  item_over n (flat_map g) x p = ap (flattened n x) (placeless_inner g x x a b refl same p)
+
+  each_over : (n : ℕ) (g : AbstractStage) (xs : List Item) (e : End) → IsPlaceless g → each (of_item n g a) xs e ≡ each (of_item n g b) xs e
+  each_over n g [] e p = refl
+  each_over n g (x ∷ xs) e p = λ i. append (item_over n g x p i) (each_over n g xs e p i)
+
+  -- nor do they look at the table
+  pub stages_over : (n : ℕ) (gs : List AbstractJobStage) (t : Trace) → are_items gs ≡ true → list_all stage_is_placeless gs ≡ true → after_stages n gs a t ≡ after_stages n gs b t
+  stages_over n [] t good p = refl
+  stages_over n (item g ∷ gs) t good p =
+      let parts = first_placeless (item g) gs p in
+      ap (after_stages (suc n) gs a) (each_over n g t.items t.ending parts.0) ∙ stages_over (suc n) gs (through n g b t) good parts.1
+  stages_over n (slice d ∷ gs) t good p = no_slice good
+  stages_over n (prefix r f ∷ gs) t good p = no_slice good
 
 -- they keep walks joined
 pub stages_joined : (n : ℕ) (gs : List AbstractJobStage) (env : Numbers) (a b : Trace) → are_items gs ≡ true → after_stages n gs env (append a b) ≡ append (after_stages n gs env a) (after_stages n gs env b)
@@ -139,9 +176,9 @@ flattened_within m n x (Ok vs) h = record { items = place_within m x.origin vs h
 flattened_within m n x (Err f) h = record { items = tt; ending = h }
 
 item_within : (m n : ℕ) (g : AbstractStage) (env : Numbers) (x : Item) → x.origin < m → Within m (of_item n g env x)
-item_within m n (map e) env x h = image_within m n x (long_value e x.value env) h
-item_within m n (filter p) env x h = passed_within m n x (truth_value p x.value env) h
-item_within m n (flat_map g) env x h = flattened_within m n x (inner_value g x.value env) h
+item_within m n (map e) env x h = image_within m n x (long_value e x env) h
+item_within m n (filter p) env x h = passed_within m n x (truth_value p x env) h
+item_within m n (flat_map g) env x h = flattened_within m n x (inner_value g x env) h
 
 each_within : (m n : ℕ) (g : AbstractStage) (env : Numbers) (xs : List Item) (e : End) → ItemsWithin m xs → EndWithin m e → Within m (each (of_item n g env) xs e)
 each_within m n g env [] e h k = record { items = tt; ending = k }

@@ -9,7 +9,7 @@ use Rattle.job_meaning.specs.declared.answer.Answer.{Answer}
 use Rattle.report_merge.specs.declared.part.PartAnswers.{PartAnswers}
 use Rattle.report_merge.specs.Mergeable.{cause_below, cause_or, is_single, unmergeable_below}
 use Rattle.report_merge.specs.declared.unmergeable.Unmergeable.{Unmergeable}
-use Rattle.report_merge.specs.Merging.{Part, all_as_one, answers_beside, both, finished, merged, part_of, with_fallbacks}
+use Rattle.report_merge.specs.Merging.{Part, all_as_one, answers_beside, both, finished, merged, part_of, rows_in, with_fallbacks}
 
 -- answers, and then others, if there are these
 abbrev pub onto : List Answer → Option (List Answer) → Option (List Answer)
@@ -20,6 +20,16 @@ onto ls (Some bs) = Some (ls ++ bs)
 abbrev pub merged_on : List AbstractJob → Option PartAnswers → List Part → Option (List Answer)
 merged_on jobs None ps = merged jobs ps
 merged_on jobs (Some p) ps = finished jobs (all_as_one jobs (Some (part_of p)) ps)
+
+-- how many rows the parts so far have, and those that are left
+abbrev pub rows_on : Option PartAnswers → List Part → ℕ
+rows_on None ps = rows_in ps
+rows_on (Some p) ps = p.rows + rows_in ps
+
+-- before the first part all are left
+abbrev pub AreLeft : Option PartAnswers → List Part → List Part → Type 0
+AreLeft None ps all = ps ≡ all
+AreLeft (Some p) ps all = Unit {0}
 
 -- ---- sources
 

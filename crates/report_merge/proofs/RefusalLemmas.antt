@@ -6,7 +6,8 @@ use Rattle.columns.specs.declared.fault.ColumnFault.{ColumnFault}
 use Rattle.columns.specs.declared.fault.ColumnFault.TheVariants.{SameName, BadNumber, RowLength, TooManyColumns}
 use Rattle.columns.specs.Number.{number_of}
 use Rattle.columns.specs.Refusals.{cell_fault, header_fault, row_fault, rows_fault}
-use Rattle.columns.specs.Table.{NamedColumn, columns_under, unless}
+use Rattle.columns.specs.Table.{columns_under, unless}
+use Rattle.tables.specs.Table.{NamedColumn}
 use Rattle.report_merge.specs.Cuts.{Row, all_rows}
 use Rattle.report_merge.specs.Refusals.{first_refusal, moved_refusal, refusal_in, refusal_of}
 

@@ -1,11 +1,11 @@
 -- The jobs that bytes spell with one list of columns and with another differ in the cells alone.
 use Rattle.std.proofs.Common.{◌≡◌, inl, inr, ℕ, ℤ, Bool, true, false, List, [], ◌∷◌, ◌++◌, length, Option, Some, None, Result, Ok, Err, refl, sym, ap, subst, ◌∙◌}
-use Rattle.std.specs.Prelude.{map}
+use Rattle.std.specs.Prelude.{map, ◌&&◌, if◌then◌else◌}
 use Rattle.stream_tokens.specs.declared.job_text.JobText.{JobText}
 use Rattle.stream_tokens.specs.declared.job_text.TextFault.{TextFault}
 use Rattle.stream_tokens.specs.declared.job_text.TextFault.TheVariants as text
 use Rattle.stream_tokens.specs.CutTexts.{TokenizedText}
-use Rattle.stream_tokens.specs.JobTexts.{job_texts_of, version_of}
+use Rattle.stream_tokens.specs.JobTexts.{job_texts_within, version_within}
 use Rattle.stream_tokens.proofs.CutLemmas.{same_tokens}
 use Rattle.lambda_expr.specs.Words.{Word, words_of}
 use Rattle.lambda_expr.proofs.OneAnswer.{Outcome, many, outside, judged, one_outcome}
@@ -14,26 +14,30 @@ use Rattle.lambda_expr.specs.declared.fault.ReadFault.TheVariants as fault
 use Rattle.lambda_expr.specs.declared.want.Want.{Want}
 use Rattle.lambda_expr.specs.declared.want.Want.TheVariants as want
 use Rattle.lambda_values.specs.Lambda.{AbstractLambda}
-use Rattle.lambda_values.specs.References.{names_of}
-use Rattle.columns.specs.Table.{NamedColumn, cells_named}
+use Rattle.tables.specs.Table.{NamedColumn, cells_named}
 use Rattle.reduce_ops.specs.declared.op.Op.{Op}
 use Rattle.job_language.specs.declared.fault.Cause.{Cause}
+use Rattle.job_language.specs.declared.fault.Cause.TheVariants as cause
 use Rattle.job_language.specs.declared.operation.Operation.{Operation}
 use Rattle.job_language.specs.declared.operation.Operation.TheVariants as operation
 use Rattle.job_language.specs.declared.operation.Param.{Param}
 use Rattle.job_language.specs.declared.operation.Param.TheVariants as param
-use Rattle.job_language.specs.Arguments.{PlacedCall, IsArgumentRead, IsLambdaRead, IsOperatorRead, IsOutcome, IsReadBy, after_references, argument_text, column_answer, lambda_answer, last_param, last_part, name_answer, reference_cause, reference_causes, text_answer}
-use Rattle.job_language.specs.Causes.{Earlier, Scope, causes_of, early_causes, first_cause, given, inside_quotes, numbers_of, stage_cause}
-use Rattle.job_language.specs.Files.{AreJobsLeft, AreJobsRead, IsNext, SpellsJobs}
+use Rattle.job_language.specs.Arguments.{PlacedCall, IsArgumentRead, IsLambdaRead, IsOperatorRead, IsOutcome, IsReadBy, after_names, argument_of, argument_text, column_answer, lambda_answer, last_param, last_part, listed, name_answer, named_causes, reads_cells, text_answer}
+use Rattle.job_language.specs.Causes.{Earlier, Scope, causes_of, early_causes, first_cause, goes_over_rows, inside_quotes, numbers_of, stage_cause}
+use Rattle.job_language.specs.Files.{AreJobsLeft, AreJobsRead, IsNext, SpellsJobsWithin, scope_below}
 use Rattle.job_language.specs.Grammar.{IsJob, Job}
 use Rattle.job_language.specs.Jobs.{AbstractJob, AbstractJobStage, AbstractPlainSource, AbstractTerminal, values}
 use Rattle.job_language.specs.Operators.{is_add_exact, spelled_op}
-use Rattle.job_language.specs.Rows.{AbstractCall, Argument, column as column_cells, fallback, source, stage, terminal}
+use Rattle.job_language.specs.Rows.{AbstractCall, Argument, column as column_cells, exact, fallback, nothing, source, stage, terminal}
 use Rattle.job_language.specs.Table.{built_of, name_in, role_of, string_in}
-use Rattle.job_language.specs.Verdicts.{AreRead, BegunJob, IsInside, IsJobRead, IsNextCall, IsRead, IsReadAfter, IsReadInTurn, added, below_terminal, call_answer, earlier_of, finished_by, placed_calls}
+use Rattle.job_language.specs.Verdicts.{AreRead, BegunJob, IsInside, IsJobRead, IsNextCall, IsRead, IsReadAfter, IsReadInTurn, added, below_terminal, call_answer, earlier_of, finished_by, job_named, placed_calls, table_of}
 use Rattle.job_language.specs.Verdicts as verdict
 use Rattle.job_language.proofs.ShapeLemmas.{one_spelled}
-use Rattle.report_merge.proofs.Written.{Cells, WrittenJob, WrittenSource, all_filled, column, earlier_same, filled, filled_more, filled_sources, literal, sources_more}
+use Rattle.report_merge.specs.Cuts.{AreBare}
+use Rattle.report_merge.specs.Mergeable.{reads_column}
+use Rattle.report_merge.proofs.ColumnLemmas.{bare_cells}
+use Rattle.report_merge.proofs.RowLemmas.{rows_have_columns}
+use Rattle.report_merge.proofs.Written.{Cells, WrittenJob, WrittenSource, all_filled, column, earlier_same, filled, filled_more, filled_sources, literal, no_cells, none_named, sources_more}
 
 -- an argument, a call and a job that is being read, as they are written
 data WrittenArgument : Type 0 where
@@ -42,7 +46,7 @@ data WrittenArgument : Type 0 where
 
 abbrev filled_argument : Cells → WrittenArgument → Argument
 filled_argument g (plain_argument a) = a
-filled_argument g (column_argument w) = column_cells (g w)
+filled_argument g (column_argument w) = column_cells (g.named w)
 
 data WrittenCall : Type 0 where
   plain_call : AbstractCall → WrittenCall
@@ -50,7 +54,7 @@ data WrittenCall : Type 0 where
 
 abbrev filled_call : Cells → WrittenCall → AbstractCall
 filled_call g (plain_call c) = c
-filled_call g (column_call w) = source (values (g w))
+filled_call g (column_call w) = source (values (g.named w))
 
 record WrittenBegun : Type 0 where
   name : List ℕ
@@ -60,11 +64,12 @@ record WrittenBegun : Type 0 where
   on_fault : Option ℤ
 
 abbrev filled_begun : Cells → WrittenBegun → BegunJob
-filled_begun g j = record { name = j.name; sources = filled_sources g j.sources; stages = j.stages; terminal = j.terminal; on_fault = j.on_fault }
+filled_begun g j = record { name = j.name; sources = filled_sources g.named j.sources; stages = j.stages; terminal = j.terminal; on_fault = j.on_fault }
 
--- these are the cells under each name that the columns have
-abbrev pub Agree : List NamedColumn → Cells → Type 0
-Agree columns g = (w : List ℕ) (vs : List ℤ) → cells_named w columns ≡ Some vs → vs ≡ g w
+-- these are the columns, and the cells under each name that they have
+pub record Agree (columns : List NamedColumn) (g : Cells) : Type 0 where
+  pub cells : (w : List ℕ) (vs : List ℤ) → cells_named w columns ≡ Some vs → vs ≡ g.named w
+  pub table : columns ≡ g.table
 
 -- ---- a column is read from its name
 
@@ -72,76 +77,81 @@ built_column : (o : Operation) (vs : List ℤ) (ks : List ℤ) (c : AbstractCall
 built_column operation.Column vs ks c h = let same : source (values vs) ≡ c = cc in sym same
 built_column o vs ks c h = absurd cc
 
-column_same : (w : List ℕ) (columns : List NamedColumn) (g : Cells) → Agree columns g → (a : Argument) (o : Option (List ℤ)) → cells_named w columns ≡ o → column_answer o ≡ Ok a → a ≡ column_cells (g w)
+column_same : (w : List ℕ) (columns : List NamedColumn) (g : Cells) → Agree columns g → (a : Argument) (o : Option (List ℤ)) → cells_named w columns ≡ o → column_answer o ≡ Ok a → a ≡ column_cells (g.named w)
 column_same w columns g agree a None e h = absurd cc
 column_same w columns g agree a (Some vs) e h =
     let same : column_cells vs ≡ a = cc in
-    sym same ∙ ap (λ (us : List ℤ). column_cells us) (agree w vs e)
+    sym same ∙ ap (λ (us : List ℤ). column_cells us) (agree.cells w vs e)
 
 same_ok : {A E : Type 0} (r : Result A E) (a b : A) → r ≡ Ok a → r ≡ Ok b → b ≡ a
 same_ok r a b h k = let both : Ok a ≡ Ok b = sym h ∙ k in let same : a ≡ b = cc in sym same
 
-to_outcome : (bytes : List ℕ) (w : Want) (o : Result AbstractLambda ReadFault) → IsOutcome bytes w o → Outcome bytes w o
-to_outcome bytes w (Ok l) j = judged j
-to_outcome bytes w (Err (fault.Syntax at)) h = outside at h refl
-to_outcome bytes w (Err fault.TooDeep) (inl m) = many m refl
-to_outcome bytes w (Err fault.TooDeep) (inr j) = judged j
-to_outcome bytes w (Err fault.LiteralTooLarge) j = judged j
-to_outcome bytes w (Err fault.UnknownName) j = judged j
-to_outcome bytes w (Err fault.WrongType) j = judged j
-to_outcome bytes w (Err fault.NoMemory) h = absurd h
+to_outcome : (cells : Bool) (bytes : List ℕ) (w : Want) (o : Result AbstractLambda ReadFault) → IsOutcome cells bytes w o → Outcome cells bytes w o
+to_outcome cells bytes w (Ok l) j = judged j
+to_outcome cells bytes w (Err (fault.Syntax at)) h = outside at h refl
+to_outcome cells bytes w (Err fault.TooDeep) (inl m) = many m refl
+to_outcome cells bytes w (Err fault.TooDeep) (inr j) = judged j
+to_outcome cells bytes w (Err fault.LiteralTooLarge) j = judged j
+to_outcome cells bytes w (Err fault.UnknownName) j = judged j
+to_outcome cells bytes w (Err fault.WrongType) j = judged j
+to_outcome cells bytes w (Err fault.NoMemory) h = absurd h
 
-module _ (version : ℕ) (earlier : List Earlier) where
+-- helper: what a lambda gives, if its names are there
+abbrev named_as : Result AbstractLambda ReadFault → Result Argument Cause
+named_as (Ok l) = argument_of l
+named_as (Err f) = Err (cause.Expr f)
+
+module _ (version : ℕ) (rows : Bool) (earlier : List Earlier) where
   -- what may be named with these columns
   abbrev scope_with : List NamedColumn → Scope
-  scope_with columns = record { version = version; jobs = earlier; columns = columns }
+  scope_with columns = record { version = version; rows = rows; jobs = earlier; columns = columns }
 
-  references_same : (cs ds : List NamedColumn) (ws : List (List ℕ)) → reference_causes (scope_with cs) ws ≡ reference_causes (scope_with ds) ws
-  references_same cs ds [] = refl
-  references_same cs ds (w ∷ ws) = ap (λ es. reference_cause (given earlier w) ∷ es) (references_same cs ds ws)
+  all_there : (o : Option Cause) (l : AbstractLambda) (a : Argument) → after_names o l ≡ Ok a → argument_of l ≡ Ok a
+  all_there None l a h = h
+  all_there (Some e) l a h = absurd cc
 
-  lambda_same : (cs ds : List NamedColumn) (o : Result AbstractLambda ReadFault) → lambda_answer (scope_with cs) o ≡ lambda_answer (scope_with ds) o
-  lambda_same cs ds (Err f) = refl
-  lambda_same cs ds (Ok l) = ap (λ es. after_references (first_cause es) l) (references_same cs ds (names_of l))
+  names_there : (cs : List NamedColumn) (o : Result AbstractLambda ReadFault) (a : Argument) → lambda_answer (scope_with cs) o ≡ Ok a → named_as o ≡ Ok a
+  names_there cs (Err f) a h = absurd cc
+  names_there cs (Ok l) a h = all_there (first_cause (named_causes (scope_with cs) l)) l a h
 
-  one_lambda : (cs ds : List NamedColumn) (bytes : List ℕ) (w : Want) (r q : Result Argument Cause) → IsLambdaRead (scope_with cs) bytes w r → IsLambdaRead (scope_with ds) bytes w q → r ≡ q
-  one_lambda cs ds bytes w r q h k =
-      sym h.2 ∙ ap (lambda_answer (scope_with cs)) (one_outcome bytes w h.0 k.0 (to_outcome bytes w h.0 h.1) (to_outcome bytes w k.0 k.1)) ∙ lambda_same cs ds k.0 ∙ k.2
+  one_lambda : (cs ds : List NamedColumn) (bytes : List ℕ) (w : Want) (a b : Argument) → IsLambdaRead (scope_with cs) bytes w (Ok a) → IsLambdaRead (scope_with ds) bytes w (Ok b) → b ≡ a
+  one_lambda cs ds bytes w a b h k =
+      let cells = reads_cells (scope_with cs) in
+      same_ok (named_as k.0) a b
+      (ap named_as (one_outcome cells bytes w k.0 h.0 (to_outcome cells bytes w k.0 k.1) (to_outcome cells bytes w h.0 h.1)) ∙ names_there cs h.0 a h.2)
+      (names_there ds k.0 b k.2)
 
-  one_operator : (cs ds : List NamedColumn) (b : Bool) (o : Option (Option Op)) (bytes : List ℕ) (r q : Result Argument Cause) → IsOperatorRead b o (scope_with cs) bytes r → IsOperatorRead b o (scope_with ds) bytes q → r ≡ q
-  one_operator cs ds true o bytes r q h k = sym h ∙ k
-  one_operator cs ds false (Some f) bytes r q h k = sym h ∙ k
-  one_operator cs ds false None bytes r q h k = one_lambda cs ds bytes want.Pair r q h k
+  one_operator : (cs ds : List NamedColumn) (t : Bool) (o : Option (Option Op)) (bytes : List ℕ) (a b : Argument) → IsOperatorRead t o (scope_with cs) bytes (Ok a) → IsOperatorRead t o (scope_with ds) bytes (Ok b) → b ≡ a
+  one_operator cs ds true o bytes a b h k = same_ok (Ok exact) a b h k
+  one_operator cs ds false (Some f) bytes a b h k = same_ok (listed f) a b h k
+  one_operator cs ds false None bytes a b h k = one_lambda cs ds bytes want.Pair a b h k
 
   name_same : (cs ds : List NamedColumn) (o : Option (List ℕ)) → name_answer (scope_with cs) o ≡ name_answer (scope_with ds) o
   name_same cs ds None = refl
   name_same cs ds (Some w) = refl
 
-  module _ (columns : List NamedColumn) (g : Cells) (agree : Agree columns g) where
+  module _ (columns : List NamedColumn) (g : Cells) (agree : Agree columns g) (plain : g.named ≡ none_named) where
     -- a part of a call, with these columns and with any others
     abbrev ArgumentWith : (List NamedColumn → Result Argument Cause → Type 0) → Argument → Type 0
     ArgumentWith Read a = (k : WrittenArgument) × (a ≡ filled_argument g k) × ((ds : List NamedColumn) (h : Cells) → Agree ds h → (b : Argument) → Read ds (Ok b) → b ≡ filled_argument h k)
 
-    abbrev is_argument : Argument → Result Argument Cause
-    is_argument a = Ok a
-
-    plain_with : (Read : List NamedColumn → Result Argument Cause → Type 0) (a : Argument) → ((ds : List NamedColumn) (b : Argument) → Read ds (Ok b) → is_argument a ≡ is_argument b) → ArgumentWith Read a
-    plain_with Read a one = (plain_argument a, refl, λ ds h agrees b read. same_ok (is_argument a) a b refl (one ds b read))
+    plain_with : (Read : List NamedColumn → Result Argument Cause → Type 0) (a : Argument) → ((ds : List NamedColumn) (b : Argument) → Read ds (Ok b) → b ≡ a) → ArgumentWith Read a
+    plain_with Read a one = (plain_argument a, refl, λ ds h agrees b read. one ds b read)
 
     text_with : (a : Argument) (o : Option (List ℕ)) → text_answer (scope_with columns) o ≡ Ok a → ArgumentWith (λ ds r. text_answer (scope_with ds) o ≡ r) a
-    text_with a None h = plain_with (λ ds r. text_answer (scope_with ds) None ≡ r) a (λ ds b k. sym h ∙ k)
+    text_with a None h = plain_with (λ ds r. text_answer (scope_with ds) None ≡ r) a (λ ds b k. same_ok (text_answer (scope_with ds) None) a b h k)
     text_with a (Some w) h =
         let name = inside_quotes w in
         (column_argument name, column_same name columns g agree a (cells_named name columns) refl h, λ ds d agrees b k. column_same name ds d agrees b (cells_named name ds) refl k)
 
     read_with : (p : Param) (ws : List Word) (bytes : List ℕ) (a : Argument) → IsReadBy p (scope_with columns) ws bytes (Ok a) → ArgumentWith (λ ds r. IsReadBy p (scope_with ds) ws bytes r) a
-    read_with param.Number ws bytes a h = plain_with (λ ds r. IsReadBy param.Number (scope_with ds) ws bytes r) a (λ ds b k. sym h ∙ k)
+    read_with param.Number ws bytes a h = plain_with (λ ds r. IsReadBy param.Number (scope_with ds) ws bytes r) a (λ ds b k. same_ok (Ok nothing) a b h k)
     read_with param.Text ws bytes a h = text_with a (string_in ws) h
-    read_with param.Name ws bytes a h = plain_with (λ ds r. IsReadBy param.Name (scope_with ds) ws bytes r) a (λ ds b k. sym h ∙ name_same columns ds (name_in ws) ∙ k)
-    read_with param.Long ws bytes a h = plain_with (λ ds r. IsReadBy param.Long (scope_with ds) ws bytes r) a (λ ds b k. one_lambda columns ds bytes want.Long (Ok a) (Ok b) h k)
-    read_with param.Bool ws bytes a h = plain_with (λ ds r. IsReadBy param.Bool (scope_with ds) ws bytes r) a (λ ds b k. one_lambda columns ds bytes want.Bool (Ok a) (Ok b) h k)
-    read_with param.Stream ws bytes a h = plain_with (λ ds r. IsReadBy param.Stream (scope_with ds) ws bytes r) a (λ ds b k. one_lambda columns ds bytes want.Stream (Ok a) (Ok b) h k)
-    read_with param.Operator ws bytes a h = plain_with (λ ds r. IsReadBy param.Operator (scope_with ds) ws bytes r) a (λ ds b k. one_operator columns ds (is_add_exact ws) (spelled_op ws) bytes (Ok a) (Ok b) h k)
+    read_with param.Name ws bytes a h = plain_with (λ ds r. IsReadBy param.Name (scope_with ds) ws bytes r) a (λ ds b k. same_ok (name_answer (scope_with ds) (name_in ws)) a b (name_same ds columns (name_in ws) ∙ h) k)
+    read_with param.Long ws bytes a h = plain_with (λ ds r. IsReadBy param.Long (scope_with ds) ws bytes r) a (λ ds b k. one_lambda columns ds bytes want.Long a b h k)
+    read_with param.Bool ws bytes a h = plain_with (λ ds r. IsReadBy param.Bool (scope_with ds) ws bytes r) a (λ ds b k. one_lambda columns ds bytes want.Bool a b h k)
+    read_with param.Stream ws bytes a h = plain_with (λ ds r. IsReadBy param.Stream (scope_with ds) ws bytes r) a (λ ds b k. one_lambda columns ds bytes want.Stream a b h k)
+    read_with param.Operator ws bytes a h = plain_with (λ ds r. IsReadBy param.Operator (scope_with ds) ws bytes r) a (λ ds b k. one_operator columns ds (is_add_exact ws) (spelled_op ws) bytes a b h k)
 
     -- a call
     abbrev CallWith : (List NamedColumn → Result AbstractCall Cause → Type 0) → AbstractCall → Type 0
@@ -157,7 +167,7 @@ module _ (version : ℕ) (earlier : List Earlier) where
 
       built_with : (k : WrittenArgument) (f : AbstractCall) → built_of c.call.operation (filled_argument g k) numbers ≡ Ok f → BuiltWith k f
       built_with (plain_argument a) f h = (plain_call f, refl, λ d b k. same_ok (built_of c.call.operation a numbers) f b h k)
-      built_with (column_argument w) f h = (column_call w, built_column c.call.operation (g w) numbers f h, λ d b k. built_column c.call.operation (d w) numbers b k)
+      built_with (column_argument w) f h = (column_call w, built_column c.call.operation (g.named w) numbers f h, λ d b k. built_column c.call.operation (d.named w) numbers b k)
 
       built_from : (ds : List NamedColumn) (h : Cells) (k : WrittenArgument) (m : WrittenCall) → ((b : Argument) → IsArgumentRead (scope_with ds) t c (Ok b) → b ≡ filled_argument h k)
           → ((b : AbstractCall) → built_of c.call.operation (filled_argument h k) numbers ≡ Ok b → b ≡ filled_call h m)
@@ -184,7 +194,7 @@ module _ (version : ℕ) (earlier : List Earlier) where
       below_same : (d : Option AbstractTerminal) (h : Cells) (k : WrittenCall) (f : AbstractCall) → below_terminal d (Ok (filled_call g k)) ≡ Ok f
           → (m : WrittenCall) × (f ≡ filled_call g m) × ((h : Cells) (b : AbstractCall) → below_terminal d (Ok (filled_call h k)) ≡ Ok b → b ≡ filled_call h m)
       below_same d h (plain_call e) f is = (plain_call f, refl, λ z b k. same_ok (below_terminal d (Ok e)) f b is k)
-      below_same d h (column_call w) f is = (column_call w, same_ok (Ok (source (values (g w)))) (source (values (g w))) f refl is, λ z b k. same_ok (Ok (source (values (z w)))) (source (values (z w))) b refl k)
+      below_same d h (column_call w) f is = (column_call w, same_ok (Ok (source (values (g.named w)))) (source (values (g.named w))) f refl is, λ z b k. same_ok (Ok (source (values (z.named w)))) (source (values (z.named w))) b refl k)
 
       next_from : (j : WrittenBegun) (ds : List NamedColumn) (h : Cells) (k m : WrittenCall)
           → ((b : AbstractCall) → IsReadInTurn (stage_cause (length j.stages) (role_of c.call.operation)) (scope_with ds) t c (Ok b) → b ≡ filled_call h k)
@@ -202,12 +212,39 @@ module _ (version : ℕ) (earlier : List Earlier) where
           (m.0, m.1, λ ds d agrees b next. next_from j ds d k.0 m.0 (k.2 ds d agrees) (m.2 d) next.0 b next.1 next.2)
 
     -- a job
-    finished_with : (j : WrittenBegun) (d : Option AbstractTerminal) (job : AbstractJob) → finished_by (filled_begun g j) d ≡ Ok job
-        → (k : WrittenJob) × (job ≡ filled g k) × ((h : Cells) (b : AbstractJob) → finished_by (filled_begun h j) d ≡ Ok b → b ≡ filled h k)
-    finished_with j None job h = absurd cc
-    finished_with j (Some d) job h =
-        let k : WrittenJob = record { name = j.name; sources = j.sources; stages = j.stages; terminal = d; on_fault = j.on_fault } in
-        (k, same_ok (Ok (filled g k)) (filled g k) job refl h, λ z b is. same_ok (Ok (filled z k)) (filled z k) b refl is)
+    -- whether its items are rows
+    abbrev over_rows : Bool
+    over_rows = reads_cells (scope_with columns) && rows
+
+    table_same : (ss : List WrittenSource) (ds : List NamedColumn) (h : Cells) → ds ≡ h.table → (over_rows ≡ true → reads_column (filled_sources none_named ss) ≡ true)
+        → table_of (scope_with ds) ≡ (if over_rows && reads_column (filled_sources none_named ss) then h.table else [])
+    table_same ss ds h same over = by_rows over_rows (reads_column (filled_sources none_named ss)) over ∙ ap (λ (t : List NamedColumn). if over_rows && reads_column (filled_sources none_named ss) then t else []) same
+      where
+        by_rows : (a b : Bool) → (a ≡ true → b ≡ true) → (if a then ds else []) ≡ (if a && b then ds else [])
+        by_rows true b k = ap (λ (t : Bool). if t then ds else []) (sym (k refl))
+        by_rows false b k = refl
+
+    abbrev written_of : WrittenBegun → AbstractTerminal → WrittenJob
+    written_of j d = record { name = j.name; sources = j.sources; stages = j.stages; terminal = d; on_fault = j.on_fault; rows = over_rows }
+
+    abbrev job_over : WrittenBegun → AbstractTerminal → Cells → List NamedColumn → AbstractJob
+    job_over j d h t = record { name = j.name; sources = filled_sources h.named j.sources; stages = j.stages; terminal = d; on_fault = j.on_fault; table = t }
+
+    finished_is : (j : WrittenBegun) (d : AbstractTerminal) (ds : List NamedColumn) (h : Cells) (b : AbstractJob) → ds ≡ h.table → (over_rows ≡ true → reads_column (filled_sources none_named j.sources) ≡ true)
+        → finished_by (scope_with ds) (filled_begun h j) (Some d) ≡ Ok b → b ≡ filled h (written_of j d)
+    finished_is j d ds h b same over is =
+        let now : job_over j d h (table_of (scope_with ds)) ≡ b = cc in
+        sym now ∙ ap (job_over j d h) (table_same j.sources ds h same over)
+
+    -- the job that is read has a column among its sources if its items are rows
+    finished_with : (j : WrittenBegun) (d : Option AbstractTerminal) (job : AbstractJob) → (over_rows ≡ true → reads_column job.sources ≡ true) → finished_by (scope_with columns) (filled_begun g j) d ≡ Ok job
+        → (k : WrittenJob) × (job ≡ filled g k) × ((ds : List NamedColumn) (h : Cells) → Agree ds h → (b : AbstractJob) → finished_by (scope_with ds) (filled_begun h j) d ≡ Ok b → b ≡ filled h k)
+    finished_with j None job over h = absurd cc
+    finished_with j (Some d) job over h =
+        let now : job_over j d g (table_of (scope_with columns)) ≡ job = cc in
+        let sources : job.sources ≡ filled_sources none_named j.sources = sym (ap (λ (b : AbstractJob). b.sources) now) ∙ ap (λ (n : List ℕ → List ℤ). filled_sources n j.sources) plain in
+        let there : (over_rows ≡ true → reads_column (filled_sources none_named j.sources) ≡ true) = λ e. sym (ap reads_column sources) ∙ over e in
+        (written_of j d, finished_is j d columns g job agree.table there h, λ ds z agrees b is. finished_is j d ds z b agrees.table there is)
 
     -- with one more call
     abbrev with_call : WrittenBegun → WrittenCall → WrittenBegun
@@ -221,8 +258,8 @@ module _ (version : ℕ) (earlier : List Earlier) where
     with_sources j ss = record { name = j.name; sources = ss; stages = j.stages; terminal = j.terminal; on_fault = j.on_fault }
 
     added_with : (h : Cells) (j : WrittenBegun) (k : WrittenCall) → added (filled_begun h j) (filled_call h k) ≡ filled_begun h (with_call j k)
-    added_with h j (column_call w) = ap (with_sources j) (sym (sources_more h j.sources (column w)))
-    added_with h j (plain_call (source s)) = ap (with_sources j) (sym (sources_more h j.sources (literal s)))
+    added_with h j (column_call w) = ap (with_sources j) (sym (sources_more h.named j.sources (column w)))
+    added_with h j (plain_call (source s)) = ap (with_sources j) (sym (sources_more h.named j.sources (literal s)))
     added_with h j (plain_call (stage f)) = refl
     added_with h j (plain_call (terminal d)) = refl
     added_with h j (plain_call (fallback z)) = refl
@@ -239,58 +276,85 @@ module _ (version : ℕ) (earlier : List Earlier) where
         let now : added (filled_begun h j) e ≡ filled_begun h (with_call j m) = ap (added (filled_begun h j)) (same e read) ∙ added_with h j m in
         rest (subst (λ (z : BegunJob). AreRead (scope_with ds) t z cs (Ok b)) now is)
 
-    calls_with : (t : TokenizedText) (cs : List PlacedCall) (j : WrittenBegun) (job : AbstractJob) → AreRead (scope_with columns) t (filled_begun g j) cs (Ok job)
+    calls_with : (t : TokenizedText) (cs : List PlacedCall) (j : WrittenBegun) (job : AbstractJob) → (over_rows ≡ true → reads_column job.sources ≡ true) → AreRead (scope_with columns) t (filled_begun g j) cs (Ok job)
         → JobWith (λ ds h b. AreRead (scope_with ds) t (filled_begun h j) cs (Ok b)) job
-    calls_with t [] j job is = let k = finished_with j j.terminal job is in (k.0, k.1, λ ds h agrees b read. k.2 h b read)
-    calls_with t (c ∷ cs) j job (inl (e, read, is)) = absurd cc
-    calls_with t (c ∷ cs) j job (inr (e, read, is)) =
+    calls_with t [] j job over is = finished_with j j.terminal job over is
+    calls_with t (c ∷ cs) j job over (inl (e, read, is)) = absurd cc
+    calls_with t (c ∷ cs) j job over (inr (e, read, is)) =
         let m = next_answer t c j read.0 e read.1 read.2 in
         let now : added (filled_begun g j) e ≡ filled_begun g (with_call j m.0) = ap (added (filled_begun g j)) m.1 ∙ added_with g j m.0 in
-        let rest = calls_with t cs (with_call j m.0) job (subst (λ (z : BegunJob). AreRead (scope_with columns) t z cs (Ok job)) now is) in
+        let rest = calls_with t cs (with_call j m.0) job over (subst (λ (z : BegunJob). AreRead (scope_with columns) t z cs (Ok job)) now is) in
         (rest.0, rest.1, λ ds h agrees b later. calls_from t c cs j rest.0 m.0 ds h b (m.2 ds h agrees) (rest.2 ds h agrees b) later)
 
-    job_with : (o : Option Cause) (t : TokenizedText) (j : Job) (job : AbstractJob) → IsJobRead o (scope_with columns) t j (Ok job) → JobWith (λ ds h b. IsJobRead o (scope_with ds) t j (Ok b)) job
-    job_with (Some e) t j job is = absurd cc
-    job_with None t j job is = calls_with t (placed_calls j) (record { name = j.name; sources = []; stages = []; terminal = None; on_fault = None }) job is
+module _ (version : ℕ) (earlier : List Earlier) (columns : List NamedColumn) (bare : AreBare columns) where
+  -- the columns have no cells here
+  abbrev g : Cells
+  g = no_cells columns
 
-    inside_same : (bytes : List ℕ) (ds : List NamedColumn) (job b : AbstractJob) (x : IsInside (scope_with columns) bytes (Ok job)) → IsInside (scope_with ds) bytes (Ok b)
-        → IsJobRead (first_cause (causes_of (scope_with ds) x.job)) (scope_with ds) (record { bytes = bytes; tokens = x.tokens }) x.job (Ok b)
-    inside_same bytes ds job b x y =
-        let same : y.tokens ≡ x.tokens = same_tokens bytes 0 y.tokens x.tokens (length bytes) y.cut x.cut in
-        let is : IsJob (words_of bytes x.tokens) y.job = subst (λ ts. IsJob (words_of bytes ts) y.job) same y.is in
-        let one : y.job ≡ x.job = one_spelled (words_of bytes x.tokens) y.job x.job is.spelled x.is.spelled in
-        let there = subst (λ ts. IsJobRead (first_cause (causes_of (scope_with ds) y.job)) (scope_with ds) (record { bytes = bytes; tokens = ts }) y.job (Ok b)) same y.read in
-        subst (λ j. IsJobRead (first_cause (causes_of (scope_with ds) j)) (scope_with ds) (record { bytes = bytes; tokens = x.tokens }) j (Ok b)) one there
+  agree : Agree columns g
+  agree = record { cells = bare_cells columns bare; table = refl }
 
-    text_from : (bytes : List ℕ) (job : AbstractJob) (x : IsInside (scope_with columns) bytes (Ok job)) (k : WrittenJob) (ds : List NamedColumn) (h : Cells) (b : AbstractJob)
-        → (IsJobRead (first_cause (causes_of (scope_with columns) x.job)) (scope_with ds) (record { bytes = bytes; tokens = x.tokens }) x.job (Ok b) → b ≡ filled h k)
-        → IsRead (scope_with ds) bytes (Ok b) → b ≡ filled h k
-    text_from bytes job x k ds h b same (verdict.long a) = let no_job = a.refused in absurd cc
-    text_from bytes job x k ds h b same (verdict.outside a) = let no_job = a.refused in absurd cc
-    text_from bytes job x k ds h b same (verdict.inside y) = same (inside_same bytes ds job b x y)
+  -- before it is known whether the items of the job are rows
+  abbrev scope_of : List NamedColumn → Scope
+  scope_of ds = scope_with version false earlier ds
 
-    text_read : (bytes : List ℕ) (job : AbstractJob) → IsRead (scope_with columns) bytes (Ok job) → JobWith (λ ds h b. IsRead (scope_with ds) bytes (Ok b)) job
-    text_read bytes job (verdict.long a) = let no_job = a.refused in absurd cc
-    text_read bytes job (verdict.outside a) = let no_job = a.refused in absurd cc
-    text_read bytes job (verdict.inside x) =
-        let k = job_with (first_cause (causes_of (scope_with columns) x.job)) (record { bytes = bytes; tokens = x.tokens }) x.job job x.read in
-        (k.0, k.1, λ ds h agrees b read. text_from bytes job x k.0 ds h b (k.2 ds h agrees b) read)
+  abbrev TextWith : (List NamedColumn → Cells → AbstractJob → Type 0) → AbstractJob → Type 0
+  TextWith Read job = (k : WrittenJob) × (job ≡ filled g k) × ((ds : List NamedColumn) (h : Cells) → Agree ds h → (b : AbstractJob) → Read ds h b → b ≡ filled h k)
+
+  second : (a b : Bool) → (a && b) ≡ true → b ≡ true
+  second true b h = h
+  second false b h = absurd (let z : false ≡ true = h in cc)
+
+  job_with : (o : Option Cause) (t : TokenizedText) (j : Job) (job : AbstractJob) → IsJobRead o (scope_of columns) t j (Ok job) → TextWith (λ ds h b. IsJobRead o (scope_of ds) t j (Ok b)) job
+  job_with (Some e) t j job is = absurd cc
+  job_with None t j job is =
+      let rows = goes_over_rows j in
+      let scope = scope_with version rows earlier columns in
+      calls_with version rows earlier columns g agree refl t (placed_calls j) (record { name = j.name; sources = []; stages = []; terminal = None; on_fault = None }) job
+      (λ over. rows_have_columns scope bare t j job (second (reads_cells scope) rows over) is) is
+
+  inside_same : (bytes : List ℕ) (ds : List NamedColumn) (job b : AbstractJob) (x : IsInside (scope_of columns) bytes (Ok job)) → IsInside (scope_of ds) bytes (Ok b)
+      → IsJobRead (first_cause (causes_of (scope_of ds) x.job)) (scope_of ds) (record { bytes = bytes; tokens = x.tokens }) x.job (Ok b)
+  inside_same bytes ds job b x y =
+      let same : y.tokens ≡ x.tokens = same_tokens bytes 0 y.tokens x.tokens (length bytes) y.cut x.cut in
+      let is : IsJob (words_of bytes x.tokens) y.job = subst (λ ts. IsJob (words_of bytes ts) y.job) same y.is in
+      let one : y.job ≡ x.job = one_spelled (words_of bytes x.tokens) y.job x.job is.spelled x.is.spelled in
+      let there = subst (λ ts. IsJobRead (first_cause (causes_of (scope_of ds) y.job)) (scope_of ds) (record { bytes = bytes; tokens = ts }) y.job (Ok b)) same y.read in
+      subst (λ j. IsJobRead (first_cause (causes_of (scope_of ds) j)) (scope_of ds) (record { bytes = bytes; tokens = x.tokens }) j (Ok b)) one there
+
+  text_from : (bytes : List ℕ) (job : AbstractJob) (x : IsInside (scope_of columns) bytes (Ok job)) (k : WrittenJob) (ds : List NamedColumn) (h : Cells) (b : AbstractJob)
+      → (IsJobRead (first_cause (causes_of (scope_of columns) x.job)) (scope_of ds) (record { bytes = bytes; tokens = x.tokens }) x.job (Ok b) → b ≡ filled h k)
+      → IsRead (scope_of ds) bytes (Ok b) → b ≡ filled h k
+  text_from bytes job x k ds h b same (verdict.long a) = let no_job = a.refused in absurd cc
+  text_from bytes job x k ds h b same (verdict.outside a) = let no_job = a.refused in absurd cc
+  text_from bytes job x k ds h b same (verdict.inside y) = same (inside_same bytes ds job b x y)
+
+  text_read : (bytes : List ℕ) (job : AbstractJob) → IsRead (scope_of columns) bytes (Ok job) → TextWith (λ ds h b. IsRead (scope_of ds) bytes (Ok b)) job
+  text_read bytes job (verdict.long a) = let no_job = a.refused in absurd cc
+  text_read bytes job (verdict.outside a) = let no_job = a.refused in absurd cc
+  text_read bytes job (verdict.inside x) =
+      let k = job_with (first_cause (causes_of (scope_of columns) x.job)) (record { bytes = bytes; tokens = x.tokens }) x.job job x.read in
+      (k.0, k.1, λ ds h agrees b read. text_from bytes job x k.0 ds h b (k.2 ds h agrees b) read)
 
 -- ---- the jobs of a file
 
-module _ (version : ℕ) (columns : List NamedColumn) (g : Cells) (agree : Agree columns g) where
+module _ (version : ℕ) (columns : List NamedColumn) (bare : AreBare columns) where
+  -- over the header alone
+  abbrev over_header : Cells
+  over_header = no_cells columns
+
   next_from_text : (above : List WrittenJob) (bytes : List ℕ) (k : WrittenJob) (ds : List NamedColumn) (h : Cells) (b : AbstractJob)
-      → (IsRead (record { version = version; jobs = map earlier_of (all_filled g above); columns = ds }) bytes (Ok b) → b ≡ filled h k)
+      → (IsRead (scope_below version ds (all_filled over_header above)) bytes (Ok b) → b ≡ filled h k)
       → IsNext version ds (all_filled h above) bytes (Ok b) → b ≡ filled h k
   next_from_text above bytes k ds h b same (inl x) = let no_job = x.1 in absurd cc
   next_from_text above bytes k ds h b same (inr x) =
-      same (subst (λ (js : List Earlier). IsRead (record { version = version; jobs = js; columns = ds }) bytes (Ok b)) (earlier_same h g above) x.1)
+      same (subst (λ (js : List Earlier). IsRead (record { version = version; rows = false; jobs = js; columns = ds }) bytes (Ok b)) (earlier_same h over_header above) x.1)
 
-  next_with : (above : List WrittenJob) (bytes : List ℕ) (job : AbstractJob) → IsNext version columns (all_filled g above) bytes (Ok job)
-      → (k : WrittenJob) × (job ≡ filled g k) × ((ds : List NamedColumn) (h : Cells) → Agree ds h → (b : AbstractJob) → IsNext version ds (all_filled h above) bytes (Ok b) → b ≡ filled h k)
+  next_with : (above : List WrittenJob) (bytes : List ℕ) (job : AbstractJob) → IsNext version columns (all_filled over_header above) bytes (Ok job)
+      → (k : WrittenJob) × (job ≡ filled over_header k) × ((ds : List NamedColumn) (h : Cells) → Agree ds h → (b : AbstractJob) → IsNext version ds (all_filled h above) bytes (Ok b) → b ≡ filled h k)
   next_with above bytes job (inl x) = let no_job = x.1 in absurd cc
   next_with above bytes job (inr x) =
-      let k = text_read version (map earlier_of (all_filled g above)) columns g agree bytes job x.1 in
+      let k = text_read version (map earlier_of (all_filled over_header above)) columns bare bytes job x.1 in
       (k.0, k.1, λ ds h agrees b read. next_from_text above bytes k.0 ds h b (k.2 ds h agrees b) read)
 
   texts_from : (t : JobText) (ts : List JobText) (above : List WrittenJob) (ks : List WrittenJob) (k : WrittenJob) (ds : List NamedColumn) (h : Cells) (js : List AbstractJob)
@@ -302,24 +366,25 @@ module _ (version : ℕ) (columns : List NamedColumn) (g : Cells) (agree : Agree
       let now : all_filled h above ++ x.0 ∷ [] ≡ all_filled h (above ++ k ∷ []) = ap (λ (j : AbstractJob). all_filled h above ++ j ∷ []) (same x.0 x.1) ∙ sym (filled_more h above k) in
       rest (subst (λ (all : List AbstractJob). AreJobsRead version ds all ts (Ok js)) now x.2)
 
-  texts_with : (ts : List JobText) (above : List WrittenJob) (jobs : List AbstractJob) → AreJobsRead version columns (all_filled g above) ts (Ok jobs)
-      → (ks : List WrittenJob) × (jobs ≡ all_filled g ks) × ((ds : List NamedColumn) (h : Cells) → Agree ds h → (js : List AbstractJob) → AreJobsRead version ds (all_filled h above) ts (Ok js) → js ≡ all_filled h ks)
+  texts_with : (ts : List JobText) (above : List WrittenJob) (jobs : List AbstractJob) → AreJobsRead version columns (all_filled over_header above) ts (Ok jobs)
+      → (ks : List WrittenJob) × (jobs ≡ all_filled over_header ks) × ((ds : List NamedColumn) (h : Cells) → Agree ds h → (js : List AbstractJob) → AreJobsRead version ds (all_filled h above) ts (Ok js) → js ≡ all_filled h ks)
   texts_with [] above jobs is =
-      (above, same_ok (Ok (all_filled g above)) (all_filled g above) jobs refl (sym is), λ ds h agrees js read. same_ok (Ok (all_filled h above)) (all_filled h above) js refl (sym read))
+      (above, same_ok (Ok (all_filled over_header above)) (all_filled over_header above) jobs refl (sym is), λ ds h agrees js read. same_ok (Ok (all_filled h above)) (all_filled h above) js refl (sym read))
   texts_with (t ∷ ts) above jobs (inl x) = let no_jobs = x.2 in absurd cc
   texts_with (t ∷ ts) above jobs (inr x) =
       let k = next_with above t.text x.0 x.1 in
-      let now : all_filled g above ++ x.0 ∷ [] ≡ all_filled g (above ++ k.0 ∷ []) = ap (λ (j : AbstractJob). all_filled g above ++ j ∷ []) k.1 ∙ sym (filled_more g above k.0) in
+      let now : all_filled over_header above ++ x.0 ∷ [] ≡ all_filled over_header (above ++ k.0 ∷ []) = ap (λ (j : AbstractJob). all_filled over_header above ++ j ∷ []) k.1 ∙ sym (filled_more over_header above k.0) in
       let rest = texts_with ts (above ++ k.0 ∷ []) jobs (subst (λ (all : List AbstractJob). AreJobsRead version columns all ts (Ok jobs)) now x.2) in
       (rest.0, rest.1, λ ds h agrees js read. texts_from t ts above rest.0 k.0 ds h js (k.2 ds h agrees) (rest.2 ds h agrees js) read)
 
   left_with : (left : Result (List JobText) TextFault) (jobs : List AbstractJob) → AreJobsLeft version columns [] left (Ok jobs)
-      → (ks : List WrittenJob) × (jobs ≡ all_filled g ks) × ((ds : List NamedColumn) (h : Cells) → Agree ds h → (js : List AbstractJob) → AreJobsLeft version ds [] left (Ok js) → js ≡ all_filled h ks)
+      → (ks : List WrittenJob) × (jobs ≡ all_filled over_header ks) × ((ds : List NamedColumn) (h : Cells) → Agree ds h → (js : List AbstractJob) → AreJobsLeft version ds [] left (Ok js) → js ≡ all_filled h ks)
   left_with (Ok texts) jobs is = texts_with texts [] jobs is
   left_with (Err (text.Syntax line)) jobs is = absurd cc
   left_with (Err text.NoMemory) jobs is = absurd is
 
--- the jobs that bytes spell, as they are written: with other columns they spell these over their cells
-pub spelled_with : (bytes : List ℕ) (columns : List NamedColumn) (g : Cells) (jobs : List AbstractJob) → Agree columns g → SpellsJobs bytes columns jobs
-    → (ks : List WrittenJob) × (jobs ≡ all_filled g ks) × ((ds : List NamedColumn) (h : Cells) → Agree ds h → (js : List AbstractJob) → SpellsJobs bytes ds js → js ≡ all_filled h ks)
-spelled_with bytes columns g jobs agree h = left_with (version_of bytes) columns g agree (job_texts_of bytes) jobs h
+-- the jobs that bytes spell over columns without cells, as they are written: with other columns they spell these over their
+-- cells
+pub spelled_with : (newest : ℕ) (bytes : List ℕ) (columns : List NamedColumn) (jobs : List AbstractJob) → AreBare columns → SpellsJobsWithin newest bytes columns jobs
+    → (ks : List WrittenJob) × (jobs ≡ all_filled (no_cells columns) ks) × ((ds : List NamedColumn) (h : Cells) → Agree ds h → (js : List AbstractJob) → SpellsJobsWithin newest bytes ds js → js ≡ all_filled h ks)
+spelled_with newest bytes columns jobs bare h = left_with (version_within newest bytes) columns bare (job_texts_within newest bytes) jobs h

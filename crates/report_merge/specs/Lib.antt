@@ -2,4 +2,6 @@
 pub mod Cuts
 pub mod Mergeable
 pub mod Merging
+pub mod Possible
 pub mod Refusals
+pub mod FaultTexts

@@ -1,9 +1,11 @@
 -- Design: which jobs over a table can be answered from their answers over parts of it. The jobs are read with columns
 -- without cells.
 use Rattle.std.specs.Prelude.{ℕ, ◌+◌, ℤ, Bool, true, false, ◌&&◌, ◌||◌, if◌then◌else◌, List, [], ◌∷◌, ◌++◌, Option, Some, None}
+use Rattle.std.specs.List.{list_all}
 use Rattle.std.specs.Ordering.{int_eq}
 use Rattle.reduce_ops.specs.Operators.{identity_of}
 use Rattle.job_language.specs.Jobs.{AbstractPlainSource, range, range_closed, values, result, AbstractJobStage, item, slice, prefix, AbstractTerminal, sum, count, min, max, to_array, reduce, reduce_from, find, exact_sum, AbstractJob}
+use Rattle.job_language.specs.Places.{stage_is_placeless, terminal_is_placeless}
 use Rattle.job_meaning.specs.Names.{names_in_job, same_name}
 use Rattle.report_merge.specs.declared.unmergeable.Unmergeable.{Unmergeable}
 use Rattle.report_merge.specs.declared.unmergeable.Unmergeable.TheVariants as cause
@@ -41,6 +43,10 @@ are_items (item g ∷ gs) = are_items gs
 are_items (slice d ∷ gs) = false
 are_items (prefix r f ∷ gs) = false
 
+-- whether no lambda of a job looks at a cell of the item's row, or at the row's number: a part counts its rows from 0
+abbrev pub job_is_placeless : AbstractJob → Bool
+job_is_placeless job = list_all stage_is_placeless job.stages && terminal_is_placeless job.terminal
+
 abbrev pub is_identity : Option ℤ → ℤ → Bool
 is_identity None a = false
 is_identity (Some i) a = int_eq i a
@@ -68,7 +74,7 @@ first_of_two (Some b) c = Some b
 
 -- why a job over a column can't be merged
 abbrev pub column_cause : AbstractJob → Option Unmergeable
-column_cause job = first_of_two (unless (is_single job.sources) cause.Concat) (first_of_two (unless (are_items job.stages) cause.Stage) (terminal_cause job.terminal))
+column_cause job = first_of_two (unless (is_single job.sources) cause.Concat) (first_of_two (unless (are_items job.stages) cause.Stage) (first_of_two (unless (job_is_placeless job) cause.Row) (terminal_cause job.terminal)))
 
 -- whether one of these jobs with this name is over a column
 abbrev pub is_column_job : List AbstractJob → List ℕ → Bool

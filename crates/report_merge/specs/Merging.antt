@@ -1,5 +1,9 @@
 -- Design: the answers of jobs over a table, made of their answers over its parts, one part after the other.
-use Rattle.std.specs.Prelude.{ℕ, ◌+◌, ◌^◌, ℤ, Bool, true, false, not, ◌&&◌, nat_lt, is_some, if◌then◌else◌, List, [], ◌∷◌, ◌++◌, Option, Some, None}
+use Rattle.std.specs.Prelude.{ℕ, ◌+◌, ◌^◌, ℤ, Bool, true, false, not, ◌&&◌, ◌==◌, nat_lt, is_some, if◌then◌else◌, List, [], ◌∷◌, ◌++◌, Option, Some, None}
+use Rattle.std.specs.Cmp.Lexicographic.{pointwise}
+use Rattle.std.specs.Ordering.{int_eq}
+use Rattle.lambda_values.specs.declared.fault.FaultKind.{FaultKind}
+use Rattle.lambda_values.specs.declared.fault.FaultKind.TheVariants as kind
 use Rattle.trace.specs.declared.item.Fault.{Fault}
 use Rattle.reduce_ops.specs.declared.op.Op.{Op}
 use Rattle.reduce_ops.specs.declared.op.Op.TheVariants as op
@@ -117,9 +121,47 @@ after (answer.Unusable place) d before rows a = joined d a (answer.Unusable plac
 abbrev pub beside : AbstractTerminal → ℕ → ℕ → Answer → Answer → Option Answer
 beside d before rows a b = if is_final a d then Some a else after b d before rows a
 
--- a job that reads no column has one answer over all rows
+-- helper: whether two faults, and two answers, are equal
+abbrev pub kind_number : FaultKind → ℕ
+kind_number kind.DivideByZero = 1
+kind_number kind.Overflow = 2
+kind_number kind.OutOfArray = 3
+kind_number kind.SourceTooLong = 4
+
+abbrev pub same_place : Option ℕ → Option ℕ → Bool
+same_place None None = true
+same_place None (Some j) = false
+same_place (Some i) None = false
+same_place (Some i) (Some j) = i == j
+
+abbrev pub same_fault : Fault → Fault → Bool
+same_fault f g = (kind_number f.kind == kind_number g.kind) && ((f.stage == g.stage) && same_place f.origin g.origin)
+
+abbrev pub same_optional : Option ℤ → Option ℤ → Bool
+same_optional None None = true
+same_optional None (Some w) = false
+same_optional (Some z) None = false
+same_optional (Some z) (Some w) = int_eq z w
+
+abbrev pub same_truth : Bool → Bool → Bool
+same_truth true b = b
+same_truth false b = not b
+
+abbrev pub same_answer : Answer → Answer → Bool
+same_answer (answer.Number z) (answer.Number w) = int_eq z w
+same_answer (answer.Truth b) (answer.Truth c) = same_truth b c
+same_answer (answer.Optional v) (answer.Optional w) = same_optional v w
+same_answer (answer.Array vs) (answer.Array ws) = pointwise int_eq vs ws
+same_answer (answer.Fault f) (answer.Fault g) = same_fault f g
+same_answer (answer.Unusable i) (answer.Unusable j) = i == j
+same_answer a b = false
+
+-- a job that reads no column has one answer over all rows: both are it
 abbrev pub answer_beside : AbstractJob → ℕ → ℕ → Answer → Answer → Option Answer
-answer_beside job before rows a b = if is_over_column job then beside job.terminal before rows a b else Some a
+answer_beside job before rows a b =
+    if is_over_column job then beside job.terminal before rows a b
+    else if same_answer a b then Some a
+    else None
 
 -- helper: a list that begins with an answer, if there are both
 abbrev pub both : Option Answer → Option (List Answer) → Option (List Answer)
@@ -168,10 +210,14 @@ abbrev pub finished : List AbstractJob → Option Part → Option (List Answer)
 finished jobs None = None
 finished jobs (Some p) = with_fallbacks jobs p.answers
 
+-- helper: the first part, if it has no more rows than a table
+abbrev pub first_part : Part → Option Part
+first_part p = if nat_lt (2 ^ 62) p.rows then None else Some p
+
 -- the answers over the table that these are the parts of, in their order; there is at least one
 abbrev pub merged : List AbstractJob → List Part → Option (List Answer)
 merged jobs [] = None
-merged jobs (p ∷ ps) = finished jobs (all_as_one jobs (Some p) ps)
+merged jobs (p ∷ ps) = finished jobs (all_as_one jobs (first_part p) ps)
 
 -- helper: the part that the program has
 abbrev pub part_of : PartAnswers → Part

@@ -3,7 +3,8 @@ use Rattle.std.specs.Prelude.{ℕ, ◌+◌, List, [], ◌∷◌, length, Option,
 use Rattle.std.specs.Option.{option_or}
 use Rattle.columns.specs.declared.fault.ColumnFault.{ColumnFault}
 use Rattle.columns.specs.declared.fault.ColumnFault.TheVariants.{NoHeader, SameName, BadNumber, RowLength, TooManyColumns, Read, NoMemory}
-use Rattle.columns.specs.Table.{NamedColumn, table_of}
+use Rattle.columns.specs.Table.{table_of}
+use Rattle.tables.specs.Table.{NamedColumn}
 use Rattle.report_merge.specs.Cuts.{Row}
 
 -- the fault of a part that these rows come before

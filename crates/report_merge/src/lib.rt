@@ -1,9 +1,10 @@
 //! The answers over a table, merged from the answers over its parts.
 //!
 //! Stands on `job_meaning`, for answers and what jobs mean, on `job_language`, for jobs, and on definitions and lemmas
-//! of the crates below. Used by the program `streamrun-merge`.
+//! of the crates below. Used by `merge_run`.
 //! Begin with `merged` of `specs/Merging.antt`, then `specs/Mergeable.antt`: which jobs can be merged.
-//! `specs/Cuts.antt` says what a table in parts is. Of the code begin with `merging.rt`.
+//! `specs/Cuts.antt` says what a table in parts is, `specs/Possible.antt` which answers a job can have. Of the code
+//! begin with `merging.rt`.
 //! What it promises to its users is the contract of `merge`: if the answers of each part are what the jobs mean over
 //! its rows, the merged answers are what they mean over the whole table.
 //! Not promised: that a part's answers are of its rows, and that the parts are handed in in their order.
@@ -14,10 +15,13 @@ mod joining;
 mod laws;
 mod merging;
 mod part;
+mod possible;
+mod stage_faults;
 mod unmergeable;
 
 pub use fault::MergeFault;
 pub use laws::the_first_refused_part_refuses_the_table;
 pub use merging::merge;
 pub use part::PartAnswers;
+pub use possible::first_impossible;
 pub use unmergeable::{Unmergeable, first_unmergeable};

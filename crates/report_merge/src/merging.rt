@@ -5,7 +5,7 @@ ghost use Rattle.job_language.specs.Jobs.{AbstractJob, jobs_of, names_of};
 ghost use Rattle.job_meaning.specs.FileAnswers.{meaning_of};
 ghost use Rattle.report_merge.specs.Cuts.{IsCut};
 ghost use Rattle.report_merge.specs.Mergeable.{first_unmergeable};
-ghost use Rattle.report_merge.specs.Merging.{answers_beside, as_one, merged, part_of};
+ghost use Rattle.report_merge.specs.Merging.{answers_beside, as_one, first_part, merged, part_of};
 ghost use Rattle.report_merge.specs.Merging.{parts_of, rows_in, with_fallbacks};
 
 use crate::fault::MergeFault;
@@ -32,6 +32,7 @@ fn answers_beside(
         answers_beside (jobs_of jobs.now) before right.now.rows left.items right.now.answers.items ≡ Some both.items) }
     ensures refused { IfErr result (λ fault. fault ≢ MergeFault.NoMemory →
         answers_beside (jobs_of jobs.now) before right.now.rows left.items right.now.answers.items ≡ None) }
+    ensures part { IfErr result (λ fault. (fault ≢ MergeFault.NoPart) × (fault ≢ MergeFault.TooManyRows)) }
 {
     let others = right.answers.as_slice();
     let mut both = Vec::new(alloc);
@@ -70,6 +71,9 @@ fn as_one(
         as_one (jobs_of jobs.now) (part_of left) (part_of right.now) ≡ Some (part_of both)) }
     ensures refused { IfErr result (λ fault. fault ≢ MergeFault.NoMemory →
         as_one (jobs_of jobs.now) (part_of left) (part_of right.now) ≡ None) }
+    ensures sum { IfOk result (λ both. both.rows ≡ left.rows + right.now.rows) }
+    ensures part { IfErr result (λ fault. fault ≢ MergeFault.NoPart) }
+    ensures rows { IfErr result (λ fault. fault ≡ MergeFault.TooManyRows → 2 ^ 62 < left.rows + right.now.rows) }
 {
     if left.rows > MAX_ROWS || right.rows > MAX_ROWS - left.rows {
         return Err(MergeFault::TooManyRows);
@@ -89,6 +93,7 @@ fn with_fallbacks(
     ensures ok { IfOk result (λ all. with_fallbacks (jobs_of jobs.now) answers.items ≡ Some all.items) }
     ensures refused { IfErr result (λ fault. fault ≢ MergeFault.NoMemory →
         with_fallbacks (jobs_of jobs.now) answers.items ≡ None) }
+    ensures part { IfErr result (λ fault. (fault ≢ MergeFault.NoPart) × (fault ≢ MergeFault.TooManyRows)) }
 {
     let mut all = Vec::new(alloc);
     let mut job = 0;
@@ -105,17 +110,31 @@ fn with_fallbacks(
     Ok(all)
 }
 
+/// The first part, if it has no more rows than a table.
+fn first_part(part: PartAnswers) -> Result<PartAnswers, MergeFault>
+    ensures ok { IfOk result (λ first. first_part (part_of part) ≡ Some (part_of first)) }
+    ensures refused { IfErr result (λ fault. first_part (part_of part) ≡ None) }
+    ensures rows { IfErr result (λ fault. (fault ≡ MergeFault.TooManyRows) × (2 ^ 62 < part.rows)) }
+{
+    if part.rows > MAX_ROWS {
+        return Err(MergeFault::TooManyRows);
+    }
+    Ok(part)
+}
+
 /// The answers of all parts as one, after each `onFault`.
 fn merged(alloc: Global, jobs: &[Job], parts: Vec<PartAnswers>) -> Result<Vec<Answer>, MergeFault>
     ensures ok { IfOk result (λ answers. merged (jobs_of jobs.now) (parts_of parts.items) ≡ Some answers.items) }
     ensures refused { IfErr result (λ fault. fault ≢ MergeFault.NoMemory →
         merged (jobs_of jobs.now) (parts_of parts.items) ≡ None) }
+    ensures no_part { IfErr result (λ fault. fault ≡ MergeFault.NoPart → parts_of parts.items ≡ []) }
+    ensures rows { IfErr result (λ fault. fault ≡ MergeFault.TooManyRows → 2 ^ 62 < rows_in (parts_of parts.items)) }
 {
     let mut whole: Option<PartAnswers> = None;
     let mut number = 0usize;
     for part in parts {
         whole = match whole {
-            None => Some(part),
+            None => Some(first_part(part)?),
             Some(left) => Some(as_one(alloc, jobs, left, number, &part)?),
         };
         number = number.saturating_add(1);
@@ -142,15 +161,17 @@ pub fn merge(
         merged (jobs_of jobs.now) (parts_of parts.items) ≡ Some answers.items) }
     ensures refused { IfErr result (λ fault. fault ≢ MergeFault.NoMemory →
         merged (jobs_of jobs.now) (parts_of parts.items) ≡ None) }
+    ensures no_part { IfErr result (λ fault. fault ≡ MergeFault.NoPart → parts_of parts.items ≡ []) }
+    ensures rows { IfErr result (λ fault. fault ≡ MergeFault.TooManyRows → 2 ^ 62 < rows_in (parts_of parts.items)) }
     // If the answers of each part are what the jobs mean over its rows, the answers are what they mean over all rows.
-    ensures whole { IfOk result (λ answers. (bytes : List ℕ) (whole : List AbstractJob)
+    ensures whole { IfOk result (λ answers. (newest : ℕ) (bytes : List ℕ) (whole : List AbstractJob)
         → first_unmergeable (jobs_of jobs.now) ≡ None
-        → IsCut bytes (jobs_of jobs.now) (parts_of parts.items) whole
+        → IsCut newest bytes (jobs_of jobs.now) (parts_of parts.items) whole
         → (answers.items ≡ meaning_of whole) × (names_of (jobs_of jobs.now) ≡ names_of whole)) }
     // With at least one part, and 2^62 rows at most, only an allocation that fails refuses the parts of a cut.
-    ensures never { IfErr result (λ fault. (bytes : List ℕ) (whole : List AbstractJob)
+    ensures never { IfErr result (λ fault. (newest : ℕ) (bytes : List ℕ) (whole : List AbstractJob)
         → first_unmergeable (jobs_of jobs.now) ≡ None
-        → IsCut bytes (jobs_of jobs.now) (parts_of parts.items) whole
+        → IsCut newest bytes (jobs_of jobs.now) (parts_of parts.items) whole
         → fault ≢ MergeFault.NoMemory
         → (parts_of parts.items ≡ []) ⊎ (2 ^ 62 < rows_in (parts_of parts.items))) }
 {

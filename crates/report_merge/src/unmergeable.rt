@@ -1,26 +1,37 @@
 //! Which jobs can't be merged, and why.
 
-ghost use Rattle.std.specs.Prelude.{◌≡◌, [], take, IfOk};
-ghost use Rattle.job_language.specs.Jobs.{job_of, job_stages_of, jobs_of, source_of, sources_of, terminal_of};
+ghost use Rattle.std.specs.List.{list_all};
+ghost use Rattle.job_language.specs.Places.{stage_is_placeless, terminal_is_placeless};
+ghost use Rattle.job_language.specs.Jobs.{job_of, job_stage_of, job_stages_of, jobs_of};
+ghost use Rattle.job_language.specs.Jobs.{source_of, sources_of, terminal_of};
+ghost use Rattle.std.specs.Prelude.{◌≡◌, [], take, IfOk, Some};
+ghost use Rattle.report_merge.specs.FaultTexts.{unmergeable_text};
 ghost use Rattle.job_meaning.specs.Names.{names_in_job};
 ghost use Rattle.report_merge.specs.Mergeable.{are_items, cause_below, column_cause, first_unmergeable};
-ghost use Rattle.report_merge.specs.Mergeable.{has_column_job, is_column, is_column_job};
+ghost use Rattle.report_merge.specs.Mergeable.{has_column_job, is_column, is_column_job, job_is_placeless};
 ghost use Rattle.report_merge.specs.Mergeable.{is_over_column, is_single, reads_column, terminal_cause};
 
+use find_ops::FindTerminal;
 use job_language::{Job, JobStage, PlainSource, Terminal};
 use job_meaning::names_in_job;
 use reduce_ops::Op;
+use slice_ops::Slice;
 use std::alloc::Global;
+use std::fmt;
+use std::fmt::{Display, Formatter, Write};
 use stream_tokens::Bytes;
-use trace::NoMemory;
+use thiserror::Error;
+use trace::{NoMemory, Stage};
 
 /// Why a job can't be merged. The jobs are read with columns without cells.
-#[derive(Clone, Copy, Debug, PartialEq, Eq)]
+#[derive(Clone, Copy, Debug, PartialEq, Eq, Error)]
 pub enum Unmergeable {
     /// It has several sources, and one of them is a column, or empty.
     Concat,
     /// It is over a column, and has a `limit`, `skip`, `takeWhile`, `dropWhile` or `prefix`.
     Stage,
+    /// It is over a column, and one of its lambdas has a `cell` or a `row()`: a part counts its rows from 0.
+    Row,
     /// It is over a column, and its terminal is an exact sum, `reduce(0, Math::addExact)`.
     ExactSum,
     /// It is over a column, and folds from a number that isn't the operator's identity. No file that is
@@ -28,6 +39,21 @@ pub enum Unmergeable {
     NoIdentity,
     /// It names a job that is over a column, by `$NAME` or `result(NAME)`.
     NamesMerged,
+}
+
+impl Display for Unmergeable {
+    ghost output = { λ cause. Some (unmergeable_text cause) };
+
+    fn fmt<W: Write>(&self, f: &mut Formatter<W>) -> fmt::Result {
+        f.write_str(match self {
+            Unmergeable::Concat => "concat with a column",
+            Unmergeable::Stage => "a stage over a column that isn't map, filter or flatMap",
+            Unmergeable::Row => "a lambda over a column with cell or row()",
+            Unmergeable::ExactSum => "an exact sum of a column",
+            Unmergeable::NoIdentity => "a fold of a column from a number that is no identity",
+            Unmergeable::NamesMerged => "it names a job over a column",
+        })
+    }
 }
 
 /// Whether a source is a column, which has no cells here. A source that is written without values counts as one too.
@@ -82,6 +108,52 @@ fn are_items(stages: &[JobStage]) -> bool
     true
 }
 
+/// Whether the lambda of a stage, if it has one, has neither a `cell` nor a `row()`.
+fn stage_is_placeless(stage: &JobStage) -> bool
+    ensures { result ≡ stage_is_placeless (job_stage_of stage.now) }
+{
+    match stage {
+        JobStage::Item(Stage::Map(expr)) => expr.is_placeless(),
+        JobStage::Item(Stage::Filter(test)) => test.is_placeless(),
+        JobStage::Item(Stage::FlatMap(inner)) => inner.is_placeless(),
+        JobStage::Slice(Slice::TakeWhile(test) | Slice::DropWhile(test)) => test.is_placeless(),
+        JobStage::Slice(Slice::Limit(_) | Slice::Skip(_)) | JobStage::Prefix { .. } => true,
+    }
+}
+
+/// Whether each of several stages is one like that.
+fn are_placeless(stages: &[JobStage]) -> bool
+    ensures { result ≡ list_all stage_is_placeless (job_stages_of stages.now) }
+{
+    for stage in stages {
+        if !stage_is_placeless(stage) {
+            return false;
+        }
+    }
+    true
+}
+
+/// Whether the lambda of a terminal, if it has one, has neither a `cell` nor a `row()`.
+fn terminal_is_placeless(terminal: &Terminal) -> bool
+    ensures { result ≡ terminal_is_placeless (terminal_of terminal.now) }
+{
+    match terminal {
+        Terminal::Find(
+            FindTerminal::AnyMatch(test)
+            | FindTerminal::AllMatch(test)
+            | FindTerminal::NoneMatch(test),
+        ) => test.is_placeless(),
+        _ => true,
+    }
+}
+
+/// Whether no lambda of a job has a `cell` or a `row()`.
+fn job_is_placeless(job: &Job) -> bool
+    ensures { result ≡ job_is_placeless (job_of job.now) }
+{
+    are_placeless(&job.stages) && terminal_is_placeless(&job.terminal)
+}
+
 /// Why a fold from this number can't be merged.
 fn fold_cause(op: Op, number: i64) -> Option<Unmergeable>
     ensures { result ≡ terminal_cause (Rattle.job_language.specs.Jobs.reduce_from number op) }
@@ -112,6 +184,9 @@ fn column_cause(job: &Job) -> Option<Unmergeable>
     }
     if !are_items(&job.stages) {
         return Some(Unmergeable::Stage);
+    }
+    if !job_is_placeless(job) {
+        return Some(Unmergeable::Row);
     }
     terminal_cause(&job.terminal)
 }

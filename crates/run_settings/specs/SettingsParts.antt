@@ -1,6 +1,8 @@
--- Condition: the parts of the settings of a run.
+-- Meaning: the parts of the settings of a run.
 use Rattle.std.specs.Prelude.{ℕ}
 use Rattle.run_settings.specs.declared.settings.Form.{Form}
+use Rattle.run_settings.specs.declared.settings.Language.{Language}
+use Rattle.run_settings.specs.declared.settings.Language.TheVariants as language
 use Rattle.run_settings.specs.declared.settings.Settings.{Settings}
 
 abbrev pub workers_of : Settings → ℕ
@@ -15,3 +17,11 @@ nodes_of s = s.nodes
 -- the form of the report
 abbrev pub form_of : Settings → Form
 form_of s = s.form
+
+-- the newest version of job files that is read
+abbrev pub language_of : Settings → Language
+language_of s = s.language
+
+abbrev pub newest_in : Language → ℕ
+newest_in language.Two = 2
+newest_in language.Three = 3

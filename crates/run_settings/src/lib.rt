@@ -1,12 +1,11 @@
-//! The settings of a run: workers, threshold, nodes, and the form of the report.
+//! The settings of a run: workers, threshold, nodes, the form of the report, and the newest language that is read.
 //!
-//! Stands on nothing. Used by `job_runner`, which runs jobs by them, and by `job_plan`, which gives them out beside
-//! plans.
+//! Stands on nothing. Used by `job_runner`, which runs jobs by them, and by whoever asks for a form of the report.
 //! What it promises to its users: `Settings::of`, clauses `taken` and `none`: settings are within their limits, and
-//! each number within its limits is taken.
+//! each number within its limits is taken; `Settings::reading`: the language alone changes.
 //! Begin with `settings.rt` and `specs/Settings.antt`.
 #![tactic(auto)]
 
 mod settings;
 
-pub use settings::{Form, Settings};
+pub use settings::{Form, Language, Settings};

@@ -12,6 +12,29 @@ pub enum Form {
     Json,
 }
 
+/// The newest version of job files that a run reads.
+#[derive(Clone, Copy, Debug, PartialEq, Eq)]
+pub enum Language {
+    /// Files of versions 1 and 2.
+    Two,
+    /// Files of version 3 too, which have `cell`.
+    Three,
+}
+
+impl Language {
+    ghost use Rattle.run_settings.specs.SettingsParts.{newest_in};
+
+    /// The newest version.
+    pub fn newest(self) -> u8
+        ensures { result ≡ newest_in self }
+    {
+        match self {
+            Language::Two => 2,
+            Language::Three => 3,
+        }
+    }
+}
+
 /// The settings of a run, each within its limits.
 #[derive(Clone, Copy, Debug)]
 pub struct Settings {
@@ -19,11 +42,12 @@ pub struct Settings {
     threshold: u64,
     nodes: u64,
     form: Form,
+    language: Language,
     ghost within: { AreWithin workers threshold nodes },
 }
 
 impl Settings {
-    ghost use Rattle.run_settings.specs.SettingsParts.{form_of, nodes_of, threshold_of, workers_of};
+    ghost use Rattle.run_settings.specs.SettingsParts.{form_of, language_of, nodes_of, threshold_of, workers_of};
 
     /// These settings, or none if a number is outside its limits.
     pub fn of(workers: u64, threshold: u64, nodes: u64, form: Form) -> Option<Settings>
@@ -33,6 +57,7 @@ impl Settings {
         ensures threshold { IfSome result (λ settings. threshold_of settings ≡ threshold) }
         ensures nodes { IfSome result (λ settings. nodes_of settings ≡ nodes) }
         ensures form { IfSome result (λ settings. form_of settings ≡ form) }
+        ensures language { IfSome result (λ settings. language_of settings ≡ Language.Two) }
     {
         let within = 1 <= workers
             && workers <= 64
@@ -45,10 +70,35 @@ impl Settings {
                 threshold,
                 nodes,
                 form,
+                language: Language::Two,
             })
         } else {
             None
         }
+    }
+
+    /// These settings, but that files of this language are read.
+    pub fn reading(self, language: Language) -> Settings
+        ensures workers { workers_of result ≡ workers_of self }
+        ensures threshold { threshold_of result ≡ threshold_of self }
+        ensures nodes { nodes_of result ≡ nodes_of self }
+        ensures form { form_of result ≡ form_of self }
+        ensures language { language_of result ≡ language }
+    {
+        Settings {
+            workers: self.workers,
+            threshold: self.threshold,
+            nodes: self.nodes,
+            form: self.form,
+            language,
+        }
+    }
+
+    /// The newest version of job files that is read.
+    pub fn language(&self) -> Language
+        ensures { result ≡ language_of self.now }
+    {
+        self.language
     }
 
     /// How many threads work: 1 to 64.

@@ -4,7 +4,7 @@ use Rattle.lambda_values.specs.Earlier.{Numbers}
 use Rattle.lambda_values.specs.Term.{Truth, truth_of}
 use Rattle.lambda_values.specs.Value.{truth_value}
 use Rattle.lambda_values.specs.declared.fault.FaultKind.{FaultKind}
-use Rattle.trace.specs.declared.item.Item.{Item}
+use Rattle.lambda_values.specs.declared.item.Item.{Item}
 use Rattle.trace.specs.declared.item.End.{End}
 use Rattle.trace.specs.declared.item.End.TheVariants as end
 use Rattle.trace.specs.Stops.{stop_at, kept_before, kept_from}
@@ -42,7 +42,7 @@ end_by n x (Err k) = Some (end.Fault (record { kind = k; stage = n; origin = Som
 
 -- how the front of a walk ends before an item, if it does
 abbrev pub front_ends : Truth → ℕ → Numbers → Item → Option End
-front_ends p n env x = end_by n x (truth_value p x.value env)
+front_ends p n env x = end_by n x (truth_value p x env)
 
 -- the items before the first one at which the test isn't true (`LongStream.takeWhile`)
 abbrev pub taken : Truth → ℕ → Numbers → Trace → Trace

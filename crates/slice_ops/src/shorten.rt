@@ -49,14 +49,14 @@ pub fn drop_while(chunk: &mut Chunk, stage: u32, test: &BoolExpr, env: &Env)
 pub(super) struct FrontTest<'a> {
     pub(super) stage: u32,
     pub(super) test: &'a BoolExpr,
-    pub(super) env: &'a Env,
+    pub(super) env: &'a Env<'a>,
 }
 
 impl EndTest for FrontTest<'_> {
     ghost stops = { λ front. front_ends (truth_of front.test.now) front.stage front.env.now };
 
     fn end_before(&self, item: Item) -> Option<End> {
-        match self.test.eval(item.value, self.env) {
+        match self.test.eval_at(item, self.env) {
             Ok(true) => None,
             Ok(false) => Some(End::Done),
             Err(kind) => Some(End::Fault(Fault {

@@ -1,6 +1,6 @@
 -- Condition: what the spliterators have left.
 use Rattle.std.specs.Prelude.{ℤ, ◌+ℤ◌, pos, ◌-◌, ◌/◌, List, [], ◌∷◌, ◌++◌, length, take}
-use Rattle.trace.specs.declared.item.Item.{Item}
+use Rattle.lambda_values.specs.declared.item.Item.{Item}
 use Rattle.trace.specs.Cover.{counted, placed}
 use Rattle.spliterator.specs.declared.plain_split.PlainSplit.{PlainSplit}
 use Rattle.spliterator.specs.declared.plain_split.PlainSplit.TheVariants.{Range, Array}

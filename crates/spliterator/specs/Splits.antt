@@ -1,6 +1,6 @@
 -- Design: splits of a list of items.
 use Rattle.std.specs.Prelude.{◌≡◌, ◌≢◌, ℕ, ◌-◌, ℤ, pos, ◌+ℤ◌, List, [], ◌++◌}
-use Rattle.trace.specs.declared.item.Item.{Item}
+use Rattle.lambda_values.specs.declared.item.Item.{Item}
 use Rattle.trace.specs.Cover.{counted, placed}
 
 -- a prefix and the rest, one after the other, are the whole, and both have items (`Spliterator.trySplit`)

@@ -1,7 +1,7 @@
 //! What every spliterator owes its callers.
 
 ghost use Rattle.std.specs.Prelude.{◌≡◌, ◌<◌, ℕ, List, [], ◌∷◌, length, IfSome, IfNone, MatchOption};
-ghost use Rattle.trace.specs.declared.item.Item.{Item};
+ghost use Rattle.lambda_values.specs.declared.item.Item.{Item};
 ghost use Rattle.spliterator.specs.Splits.{IsSplit};
 
 use trace::Item;

@@ -1,7 +1,7 @@
 //! Sources that aren't concatenations.
 
 ghost use Rattle.std.specs.Prelude.{◌≡◌, ◌/◌, ◌<◌, List, length, IfSome, IfNone};
-ghost use Rattle.trace.specs.declared.item.Item.{Item};
+ghost use Rattle.lambda_values.specs.declared.item.Item.{Item};
 ghost use Rattle.spliterator.specs.Parts.{plain_items};
 ghost use Rattle.spliterator.specs.Splits.{IsSplit};
 

@@ -7,3 +7,4 @@ pub mod Longest
 pub mod Runs
 pub mod SymbolFronts
 pub mod TextLemmas
+pub mod VersionLemmas

@@ -1,5 +1,5 @@
 -- Meaning: the texts of the jobs of a file, each with the number of the line that begins it.
-use Rattle.std.specs.Prelude.{ℕ, ◌+◌, ◌++◌, ◌||◌, ◌&&◌, Bool, false, nat_eq, List, [], ◌∷◌, codes, drop, if◌then◌else◌, Result, Ok, Err}
+use Rattle.std.specs.Prelude.{ℕ, ◌+◌, ◌++◌, ◌||◌, ◌&&◌, Bool, false, nat_eq, nat_le, unwrap_or, Option, Some, None, List, [], ◌∷◌, codes, drop, if◌then◌else◌, Result, Ok, Err}
 use Rattle.std.specs.List.{starts_with, list_all}
 use Rattle.stream_tokens.specs.declared.job_text.JobText.{JobText}
 use Rattle.stream_tokens.specs.declared.job_text.TextFault.{TextFault}
@@ -66,30 +66,41 @@ abbrev pub begins_blank : List ℕ → Bool
 begins_blank [] = false
 begins_blank (b ∷ bs) = is_blank b
 
--- `2`, and no more than blanks after it
-abbrev pub is_two : List ℕ → Bool
-is_two bytes = starts_with nat_eq bytes (50 ∷ []) && list_all is_blank (drop 1 bytes)
+-- the version of this digit, if it is 2, or 3 and that isn't newer than the newest one
+abbrev pub version_digit : ℕ → ℕ → Option ℕ
+version_digit newest d = if nat_eq d 50 then Some 2 else (if nat_eq d 51 && nat_le 3 newest then Some 3 else None)
 
--- `version`, blanks, and `2`
-abbrev pub is_version_two : List ℕ → Bool
-is_version_two bytes =
-    starts_with nat_eq bytes (codes "version") && (begins_blank (drop 7 bytes) && is_two (without_blanks (drop 7 bytes)))
+-- a digit, and no more than blanks after it
+abbrev pub named_version : ℕ → List ℕ → Option ℕ
+named_version newest [] = None
+named_version newest (d ∷ rest) = if list_all is_blank rest then version_digit newest d else None
 
--- a line of two tokens, `version` and `2`: blanks stand between them, and may stand before and after
-abbrev pub is_version_line : List ℕ → Bool
-is_version_line line = is_version_two (without_blanks line)
+-- `version`, blanks, and the digit
+abbrev pub version_after_blanks : ℕ → List ℕ → Option ℕ
+version_after_blanks newest bytes =
+    if starts_with nat_eq bytes (codes "version") && begins_blank (drop 7 bytes)
+    then named_version newest (without_blanks (drop 7 bytes)) else None
 
--- the version that the first line says that isn't skipped: 2 if it is `version 2`, else 1
-abbrev pub version_in : List NumberedLine → ℕ
-version_in [] = 1
-version_in (line ∷ lines) = by_kind (kind_of line.bytes) (version_in lines) 1 (if is_version_line line.bytes then 2 else 1)
+-- the version that a line of two tokens says: blanks stand between them, and may stand before and after
+abbrev pub said_version : ℕ → List ℕ → Option ℕ
+said_version newest line = version_after_blanks newest (without_blanks line)
 
--- the jobs of some lines; a first line `version 2` begins none, and nothing continues it
-abbrev pub texts_of_lines : List NumberedLine → Result (List JobText) TextFault
-texts_of_lines [] = Ok []
-texts_of_lines (line ∷ lines) =
-    by_kind (kind_of line.bytes) (texts_of_lines lines) (Err (Syntax line.number))
-    (if is_version_line line.bytes then jobs_of_lines lines else jobs_of_lines (line ∷ lines))
+-- the version that the first line says that isn't skipped, else 1
+abbrev pub version_in : ℕ → List NumberedLine → ℕ
+version_in newest [] = 1
+version_in newest (line ∷ lines) = by_kind (kind_of line.bytes) (version_in newest lines) 1 (unwrap_or (said_version newest line.bytes) 1)
+
+-- helper: these jobs after a line that says a version, or else those
+abbrev pub after_said : Option ℕ → Result (List JobText) TextFault → Result (List JobText) TextFault → Result (List JobText) TextFault
+after_said (Some v) after all = after
+after_said None after all = all
+
+-- the jobs of some lines; a first line that says a version begins none, and nothing continues it
+abbrev pub texts_of_lines : ℕ → List NumberedLine → Result (List JobText) TextFault
+texts_of_lines newest [] = Ok []
+texts_of_lines newest (line ∷ lines) =
+    by_kind (kind_of line.bytes) (texts_of_lines newest lines) (Err (Syntax line.number))
+    (after_said (said_version newest line.bytes) (jobs_of_lines lines) (jobs_of_lines (line ∷ lines)))
 
 -- a byte order mark: the three bytes of U+FEFF in UTF-8
 abbrev pub byte_order_mark : List ℕ
@@ -103,10 +114,18 @@ without_mark bytes = if starts_with nat_eq bytes byte_order_mark then drop 3 byt
 abbrev pub lines_in : List ℕ → List NumberedLine
 lines_in bytes = numbered 1 (lines_of (without_mark bytes))
 
--- the version of the language in which a file is written, 1 or 2
-unfoldable pub version_of : List ℕ → ℕ
-version_of bytes = version_in (lines_in bytes)
+-- the version of the language in which a file is written, where the newest one that is read is this
+unfoldable pub version_within : ℕ → List ℕ → ℕ
+version_within newest bytes = version_in newest (lines_in bytes)
 
--- the texts of the jobs, or the line that continues nothing
-unfoldable pub job_texts_of : List ℕ → Result (List JobText) TextFault
-job_texts_of bytes = texts_of_lines (lines_in bytes)
+-- the version where the newest one is 2: 1 or 2
+abbrev pub version_of : List ℕ → ℕ
+version_of bytes = version_within 2 bytes
+
+-- the texts of the jobs, or the line that continues nothing, where the newest version is this
+unfoldable pub job_texts_within : ℕ → List ℕ → Result (List JobText) TextFault
+job_texts_within newest bytes = texts_of_lines newest (lines_in bytes)
+
+-- the texts where the newest version is 2
+abbrev pub job_texts_of : List ℕ → Result (List JobText) TextFault
+job_texts_of bytes = job_texts_within 2 bytes

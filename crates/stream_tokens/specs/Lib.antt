@@ -9,3 +9,4 @@ pub mod JobTexts
 pub mod CutTexts
 pub mod CutFields
 pub mod TextsLeft
+pub mod FaultTexts

@@ -1,6 +1,6 @@
 //! The texts of the jobs of a file.
 ghost use Rattle.std.specs.Prelude.{◌≡◌, ◌≢◌, [], Ok, Err, IfOk, IfErr, IfSome, IfNone};
-ghost use Rattle.stream_tokens.specs.JobTexts.{job_texts_of, jobs_after, jobs_of_lines, version_of};
+ghost use Rattle.stream_tokens.specs.JobTexts.{job_texts_of, job_texts_within, jobs_after, jobs_of_lines, version_of};
 ghost use Rattle.stream_tokens.specs.TextsLeft.{Gives, HasText, IsWhole, lines_at};
 
 use crate::line::{LineKind, kind_of};
@@ -8,7 +8,10 @@ use crate::lines_left::LinesLeft;
 use crate::text::Text;
 use crate::version::{job_lines, version_of};
 use std::alloc::{AllocError, AllocFailed, Global};
+use std::fmt;
+use std::fmt::{Display, Formatter, Write};
 use std::marker::Model;
+use thiserror::Error;
 
 /// The text of one job.
 #[derive(Drop)]
@@ -20,12 +23,26 @@ pub struct JobText<'a> {
 }
 
 /// Why the texts of a file can't be listed.
-#[derive(Clone, Copy, Debug, PartialEq, Eq)]
+#[derive(Clone, Copy, Debug, PartialEq, Eq, Error)]
 pub enum TextFault {
     /// A line that continues a job, with no job above it.
     Syntax { line: u64 },
     /// An allocation failed.
     NoMemory,
+}
+
+impl Display for TextFault {
+    ghost use Rattle.std.specs.Prelude.{Some};
+    ghost use Rattle.stream_tokens.specs.FaultTexts.{text_fault_text};
+
+    ghost output = { λ fault. Some (text_fault_text fault) };
+
+    fn fmt<W: Write>(&self, f: &mut Formatter<W>) -> fmt::Result {
+        match self {
+            TextFault::Syntax { line } => write!(f, "line {line}: syntax"),
+            TextFault::NoMemory => f.write_str("out of memory"),
+        }
+    }
 }
 
 impl From<AllocError> for TextFault {
@@ -72,8 +89,16 @@ impl<'a> JobTexts<'a> {
     pub fn of(bytes: &'a [u8]) -> JobTexts<'a>
         ensures { result ≡ job_texts_of bytes.now }
     {
+        JobTexts::within(2, bytes)
+    }
+
+    /// All texts of a file, if the newest version is this; a first line that says a version is none of them. Takes no
+    /// memory.
+    pub fn within(newest: u8, bytes: &'a [u8]) -> JobTexts<'a>
+        ensures { result ≡ job_texts_within newest bytes.now }
+    {
         JobTexts {
-            lines: job_lines(bytes),
+            lines: job_lines(newest, bytes),
         }
     }
 

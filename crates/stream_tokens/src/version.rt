@@ -1,9 +1,10 @@
 //! The version of the language in which a file of jobs is written.
-ghost use Rattle.std.specs.Prelude.{◌≡◌};
+ghost use Rattle.std.specs.Prelude.{◌≡◌, ◌⊎◌, ℕ, List};
 ghost use Rattle.std.specs.List.{list_all};
 ghost use Rattle.stream_tokens.specs.Bytes.{is_blank};
-ghost use Rattle.stream_tokens.specs.JobTexts.{begins_blank, is_two, is_version_line, is_version_two, job_texts_of};
-ghost use Rattle.stream_tokens.specs.JobTexts.{jobs_of_lines, texts_of_lines, version_in, version_of, without_blanks};
+ghost use Rattle.stream_tokens.specs.JobTexts.{begins_blank, job_texts_of, job_texts_within, jobs_of_lines};
+ghost use Rattle.stream_tokens.specs.JobTexts.{named_version, said_version, texts_of_lines, version_after_blanks};
+ghost use Rattle.stream_tokens.specs.JobTexts.{version_in, version_of, version_within, without_blanks};
 ghost use Rattle.stream_tokens.specs.TextsLeft.{lines_at};
 
 use crate::line::{LineKind, kind_of, without_mark};
@@ -47,64 +48,92 @@ fn are_blank(bytes: &[u8]) -> bool
     true
 }
 
-/// Whether the bytes are `2` and blanks.
-fn is_two(bytes: &[u8]) -> bool
-    ensures { result ≡ is_two bytes.now }
+/// The version, from 2 to the newest, that these bytes name: its digit and blanks.
+fn named_version(newest: u8, bytes: &[u8]) -> Option<u8>
+    ensures { result ≡ named_version newest bytes.now }
 {
-    if !bytes.starts_with(b"2") {
-        return false;
+    let [digit, rest @ ..] = bytes else {
+        return None;
+    };
+    if !are_blank(rest) {
+        return None;
     }
-    are_blank(&bytes[1..])
+    match *digit {
+        b'2' => Some(2),
+        b'3' if newest >= 3 => Some(3),
+        _ => None,
+    }
 }
 
-/// Whether the bytes are `version`, blanks, `2` and blanks.
-fn is_version_two(bytes: &[u8]) -> bool
-    ensures { result ≡ is_version_two bytes.now }
+/// The version that these bytes say: `version`, blanks, and its digit.
+fn version_after_blanks(newest: u8, bytes: &[u8]) -> Option<u8>
+    ensures { result ≡ version_after_blanks newest bytes.now }
 {
     if !bytes.starts_with(b"version") {
-        return false;
+        return None;
     }
     let rest = &bytes[7..];
-    begins_blank(rest) && is_two(without_blanks(rest))
+    if !begins_blank(rest) {
+        return None;
+    }
+    named_version(newest, without_blanks(rest))
 }
 
-/// Whether a line has the two tokens `version` and `2`.
-fn is_version_line(line: &[u8]) -> bool
-    ensures { result ≡ is_version_line line.now }
+/// The version that a line of two tokens says.
+fn said_version(newest: u8, line: &[u8]) -> Option<u8>
+    ensures { result ≡ said_version newest line.now }
 {
-    is_version_two(without_blanks(line))
+    version_after_blanks(newest, without_blanks(line))
 }
 
 /// The version that some lines say, and the lines of their jobs.
-fn after_version(lines: LinesLeft) -> (u8, LinesLeft)
-    ensures version { result.0 ≡ version_in (lines_at lines.entry) }
-    ensures texts { texts_of_lines (lines_at lines.entry) ≡ jobs_of_lines (lines_at result.1) }
+fn after_version(newest: u8, lines: LinesLeft) -> (u8, LinesLeft)
+    ensures version { result.0 ≡ version_in newest (lines_at lines.entry) }
+    ensures texts { texts_of_lines newest (lines_at lines.entry) ≡ jobs_of_lines (lines_at result.1) }
 {
     let mut left = lines;
     while let Some((line, after)) = left.first() {
         match kind_of(line.bytes) {
             LineKind::Skipped => left = after,
             LineKind::Continues => return (1, left),
-            LineKind::Begins if is_version_line(line.bytes) => return (2, after),
-            LineKind::Begins => return (1, left),
+            LineKind::Begins => {
+                return match said_version(newest, line.bytes) {
+                    Some(version) => (version, after),
+                    None => (1, left),
+                };
+            }
         }
     }
     (1, left)
 }
 
 /// The lines of the jobs of a file.
-#[tactic(auto, unfolding(crate::specs::JobTexts::job_texts_of))]
-pub(crate) fn job_lines<'a>(bytes: &'a [u8]) -> LinesLeft<'a>
-    ensures { jobs_of_lines (lines_at result) ≡ job_texts_of bytes.now }
+#[tactic(auto, unfolding(crate::specs::JobTexts::job_texts_within))]
+pub(crate) fn job_lines<'a>(newest: u8, bytes: &'a [u8]) -> LinesLeft<'a>
+    ensures { jobs_of_lines (lines_at result) ≡ job_texts_within newest bytes.now }
 {
-    after_version(LinesLeft::of(without_mark(bytes))).1
+    after_version(newest, LinesLeft::of(without_mark(bytes))).1
 }
 
 /// The version of the language in which a file is written: 2 if its first line that isn't skipped is
 /// `version 2`, else 1. Reads no further than that line.
-#[tactic(auto, unfolding(crate::specs::JobTexts::version_of))]
 pub fn version_of(bytes: &[u8]) -> u8
     ensures { result ≡ version_of bytes.now }
 {
-    after_version(LinesLeft::of(without_mark(bytes))).0
+    version_within(2, bytes)
 }
+
+/// The version of the language in which a file is written, if the newest one is this: what its first line that isn't
+/// skipped says, `version 2` or `version 3`, else 1.
+#[tactic(auto, unfolding(crate::specs::JobTexts::version_within))]
+pub fn version_within(newest: u8, bytes: &[u8]) -> u8
+    ensures { result ≡ version_within newest bytes.now }
+{
+    after_version(newest, LinesLeft::of(without_mark(bytes))).0
+}
+
+/// A file that doesn't say version 3 has one version and the same texts, whether 2 or 3 is the newest version.
+pub fn later_versions_are_said()
+    ensures { (bytes : List ℕ) → (version_within 3 bytes ≡ 3)
+        ⊎ ((version_within 3 bytes ≡ version_of bytes) × (job_texts_within 3 bytes ≡ job_texts_of bytes)) }
+{}

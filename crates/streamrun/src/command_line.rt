@@ -1,7 +1,7 @@
 //! The command line.
 
 use clap::{Arg, ArgAction, ArgMatches, Command, Error, value_parser};
-use run_settings::{Form, Settings};
+use run_settings::{Form, Language, Settings};
 use std::alloc::{AllocError, Global};
 
 /// What the command line asks for.
@@ -39,7 +39,6 @@ const VERSION_AND_PURPOSE: &str =
 const EXAMPLE_AND_STATUSES: &str =
     r#"Workers, threshold and nodes never change the report. This one is a = 5050:
   echo 'a = range(1, 101).sum()' | streamrun /dev/stdin
-
 Exit status:
   0  the report was written; faults of jobs are answers
   1  the job file or the column file is refused
@@ -128,7 +127,23 @@ fn with_settings<'a>(alloc: Global, command: Command<'a>) -> Result<Command<'a>,
         "Split items at most this often",
     );
     let command = command.arg(nodes.value_parser(value_parser!(u64).range(0..=1_048_576)))?;
+    let language = number(
+        alloc,
+        "language",
+        "2 to 3",
+        "2",
+        "Read job files up to this version",
+    );
+    let command = command.arg(language.value_parser(value_parser!(u64).range(2..=3)))?;
     command.arg(json(alloc))
+}
+
+/// The language that was matched.
+fn language_of(matches: &ArgMatches<'_>) -> Option<Language> {
+    match matches.get_one::<u64>("language")? {
+        3 => Some(Language::Three),
+        _ => Some(Language::Two),
+    }
 }
 
 /// The settings that were matched.
@@ -138,10 +153,11 @@ fn settings_of(matches: &ArgMatches<'_>) -> Option<Settings> {
     } else {
         Form::Text
     };
-    Settings::of(
+    let settings = Settings::of(
         matches.get_one::<u64>("workers")?,
         matches.get_one::<u64>("threshold")?,
         matches.get_one::<u64>("nodes")?,
         form,
-    )
+    )?;
+    Some(settings.reading(language_of(matches)?))
 }

@@ -14,7 +14,7 @@ ghost use Rattle.std.specs.Prelude.{◌≡◌, Result, ⊤};
 ghost use Rattle.engine.specs.Given.{IsAnswered};
 ghost use Rattle.engine.specs.Statuses.{status_after};
 ghost use Rattle.engine.specs.declared.fault.EngineFault.{EngineFault as meant_fault};
-ghost use Rattle.run_settings.specs.SettingsParts.{form_of};
+ghost use Rattle.run_settings.specs.Asked.{asked_of};
 
 mod command_line;
 mod progress;
@@ -174,7 +174,7 @@ fn ended_run<H: Threads + Wait + Sync, C: CountedRead, J: CountedRead, W: Counte
 ) -> u8
     // The status is the status after an answer of the run over these readers and this writer.
     ensures { (answer : Result ⊤ meant_fault) × (result ≡ status_after answer)
-        × IsAnswered C.remaining columns.entry (J.remaining jobs.old) (form_of settings.now)
+        × IsAnswered C.remaining columns.entry (J.remaining jobs.old) (asked_of settings.now)
         (W.contents writer.old) (W.contents writer.new) answer }
 {
     let answer = run(

@@ -1,7 +1,7 @@
 //! The command line.
 
-use clap::{Arg, ArgAction, ArgMatches, Command, Error};
-use run_settings::Form;
+use clap::{Arg, ArgAction, ArgMatches, Command, Error, value_parser};
+use run_settings::{Form, Language};
 use std::alloc::{AllocError, Global};
 
 /// What the command line asks for.
@@ -14,6 +14,8 @@ pub struct MergeArguments<'a> {
     /// The paths of the reports, in the order of the parts.
     pub reports: Vec<&'a str>,
     pub form: Form,
+    /// The newest version of job files that is read.
+    pub language: Language,
 }
 
 /// Reads the words of a command line, the program's name first. A request for help is an `Err` too,
@@ -55,6 +57,13 @@ fn command_of<'a>(alloc: Global) -> Result<Command<'a>, AllocError> {
         .long("json")
         .help("Write the report as JSON")
         .action(ArgAction::SetTrue);
+    let language = Arg::new(alloc, "language")
+        .long("language")
+        .value_name("2 to 3")
+        .help("The newest version of job files that is read")
+        .default_value("2")
+        .action(ArgAction::Set)
+        .value_parser(value_parser!(u64).range(2..=3));
     let jobs = Arg::new(alloc, "JOBS")
         .help("The file of jobs that each part ran")
         .required(true)
@@ -69,7 +78,8 @@ fn command_of<'a>(alloc: Global) -> Result<Command<'a>, AllocError> {
         .arg(jobs)?
         .arg(reports)?
         .arg(rows)?
-        .arg(json)
+        .arg(json)?
+        .arg(language)
 }
 
 /// The arguments that were matched.
@@ -86,6 +96,10 @@ fn arguments_of<'a>(
             Form::Json
         } else {
             Form::Text
+        },
+        language: match matches.get_one::<u64>("language") {
+            Some(3) => Language::Three,
+            _ => Language::Two,
         },
     })
 }

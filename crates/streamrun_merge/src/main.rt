@@ -90,7 +90,7 @@ fn merged(rt: &HostRuntime, arguments: &MergeArguments<'_>) -> Result<u8, Ending
             bytes: read_file(rt, path)?,
         })?;
     }
-    let report = match merged_report(rt.alloc(), &jobs, parts, arguments.form) {
+    let report = match merged_report(rt.alloc(), &jobs, arguments.language, parts, arguments.form) {
         Ok(report) => report,
         Err(fault) => return Ok(tell(&fault, arguments, &mut rt.stderr())),
     };

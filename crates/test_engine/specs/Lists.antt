@@ -1,6 +1,6 @@
 -- Condition: the jobs of these tests, which copy lists.
 use Rattle.std.specs.Prelude.{ℕ, ℤ, suc, ◌-◌, ◌%◌, List, [], ◌∷◌, take, drop}
-use Rattle.trace.specs.declared.item.Item.{Item}
+use Rattle.lambda_values.specs.declared.item.Item.{Item}
 use Rattle.trace.specs.declared.item.End.TheVariants as end
 use Rattle.trace.specs.Trace.{Trace, trace}
 use Rattle.early_stop.specs.Decisive.{Decides}

@@ -3,7 +3,6 @@ use crate::driven::settings;
 use crate::gates::{Holds, Watching};
 use crate::shown::{columns_of, plan_of, shown};
 use crate::worked::{COLUMNS, FILES};
-use columns::Columns;
 use job_meaning::Answer;
 use job_table::{RunFault, run_jobs};
 use run_settings::Settings;
@@ -12,6 +11,7 @@ use std::sync::Wait;
 use std::sync::atomic::Ordering::SeqCst;
 use std::test::Fail;
 use std::thread::Threads;
+use tables::Columns;
 
 /// How a job is run, and how it is walked: workers, threshold and nodes, the least and the greatest number of leaves,
 /// and the greatest length of one; then the job, and its answer. With `held` the leaf at position 0 is held until
@@ -19,7 +19,8 @@ use std::thread::Threads;
 /// often as it has leaves, with one after the other held for 1,000 turns, and the numbers are of all that were held.
 /// The answers and the numbers were worked out by hand. No clause says that a piece is walked by a task of its own,
 /// that a piece after the place that decides is left out, that two workers walk at once, that the longest pieces are
-/// cut first, or that there is credit, or a node, for the last job of a chain.
+/// cut first, that no exact sum without a fault is walked twice, or that there is credit, or a node, for the last job
+/// of a chain.
 const CASES: &str = "\
 1 1000 4096 1 1 1000 => s = range(0, 1000).sum() => 499500
 1 1000 4096 2 2 1000 => s = range(0, 1001).sum() => 500500
@@ -33,6 +34,7 @@ const CASES: &str = "\
 8 1000 4096 1 1 4096 => s = range(0, 4096).filter(x -> x > 9).limit(4000).sum() => 8038000
 8 1000 4096 4 4 1000 => s = range(0, 4096).limit(4000).sum() => 7998000
 8 1000 4096 8 8 1000 => s = range(0, 4096).anyMatch(x -> x > 4000) => true
+8 1000 4096 8 8 1000 => s = range(0, 4096).reduce(0, Math::addExact) => 8386560
 2 1000 0 1 3 4096 => s = range(0, 4096).filter(x -> x > 9).limit(4000).sum() => 8038000
 1 1 4096 1 10 1000 => g = range(0, 1000).findFirst() => OptionalLong[0]
 1 1 4096 1 10 100000 => m = range(0, 100000).anyMatch(x -> x > 6) => true

@@ -1,12 +1,12 @@
 //! Routes of jobs: what they go over, their walks, and walks on trees that cut them.
 
 use crate::shown::{plan_of, shown};
-use columns::Columns;
 use job_plan::{JobPlan, SplitTree, walk, walk_tree};
 use job_routes::Leg;
 use lambda_values::Env;
 use std::alloc::{AllocError, Global};
 use std::test::Fail;
+use tables::Columns;
 
 /// A node of two leaves.
 fn cut_at(alloc: Global, items: u64) -> Result<SplitTree, AllocError> {

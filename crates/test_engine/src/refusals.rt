@@ -4,7 +4,6 @@
 ghost use Rattle.std.specs.Prelude.{◌≡◌, IfOk, IfSome};
 ghost use Rattle.trace.specs.declared.item.End.TheVariants as end;
 
-use columns::Columns;
 use job_language::{Job, read_jobs};
 use job_plan::Plan;
 use lambda_expr::{ReadFault, Want, read_lambda};
@@ -12,6 +11,7 @@ use lambda_values::{Body, Env, Lambda};
 use std::alloc::Global;
 use std::test::Fail;
 use stream_tokens::{JobText, TextFault, job_texts};
+use tables::Columns;
 use trace::{Chunk, End, Item, NoMemory};
 
 fn item(value: i64) -> Item {

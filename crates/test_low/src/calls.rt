@@ -3,9 +3,10 @@ ghost use Rattle.std.specs.Prelude.{◌≡◌, IfOk, length};
 ghost use Rattle.trace.specs.declared.item.End.TheVariants as end;
 
 use crate::batches::stage;
+use crate::messages::are_messages;
 use find_ops::{FindPart, FindTerminal, Finder, Found};
 use lambda_expr::{Want, read_lambda, read_number};
-use lambda_values::{Body, BoolExpr, Env, FaultKind, Inner, InnerExpr};
+use lambda_values::{Body, BoolExpr, Env, FaultKind, Inner, InnerExpr, LongExpr};
 use prefix_scan::{down, merge, up};
 use reduce_ops::{Exact, ExactPart, Op, Partial};
 use slice_ops::{Slice, SlicePart, drop_while, limit, skip, take_while};
@@ -97,6 +98,19 @@ fn are_inner(alloc: Global) -> Result<bool, NoMemory> {
         _ => false,
     };
     Ok(is_range && is_listed && listed.eval(0, &env).err() == Some(FaultKind::DivideByZero))
+}
+
+/// Whether a row is the place of the item, and a number by itself has place 0; and which expressions look at places.
+fn are_rows(alloc: Global) -> Result<bool, NoMemory> {
+    let env = Env::empty(alloc);
+    let row = LongExpr::Row;
+    let stays = LongExpr::Parameter(0);
+    let is_row = row.eval_at(item(7, 5), &env) == Ok(7) && row.eval(5, &env) == Ok(0);
+    let is_value = stays.eval(5, &env) == Ok(5);
+    let is_tested = test(alloc, "x -> x > 1")?.is_placeless();
+    let is_listed = inner(alloc, b"x -> of(x)")?.is_placeless();
+    let is_placeless = stays.is_placeless() && is_tested && is_listed && !row.is_placeless();
+    Ok(is_row && is_value && is_placeless)
 }
 
 /// Whether items that are fed one by one, and values of a chunk, are these.
@@ -259,12 +273,14 @@ fn each_call_that_the_program_does_not_make_gives_its_value(rt: HostRuntime) -> 
     for (calls, are_right) in [
         ("texts, tokens, numbers", are_read(alloc)?),
         ("inner streams", are_inner(alloc)?),
+        ("places of items", are_rows(alloc)?),
         ("items and values", are_walked(alloc)?),
         ("prefixes", are_prefixes(alloc)?),
         ("folds", are_folded()),
         ("slices of chunks", are_shortened(alloc)?),
         ("slices of pieces", are_sliced(alloc)?),
         ("finds and matches", are_found(alloc)?),
+        ("messages of faults", are_messages(alloc)),
     ] {
         assert!(rt; are_right, "{calls}");
     }

@@ -6,11 +6,11 @@
 //! runs. Here is what only a caller sees: sinks and readers of one's own, memory that is not copied, sources that
 //! split, tasks that are dropped, run once or held.
 //!
-//! `calls.rt` has a call of each kind that the program doesn't make, from `stream_tokens` to `prefix_scan`; `words.rt`
-//! calls `early_stop`. `lambdas.rt` is for `lambda_expr`, `walks.rt` for `trace`, `batches.rt` with `random.rt`, and
-//! `full_sinks.rt`, for `batch_eval`, `values.rt` for `job_meaning`, `splits.rt` for `spliterator`, `pieces.rt` and
-//! `readers.rt` for `columns`, `handles.rt` for `deques`; `sums.rt`, a small `Work` of one's own, `held_leaves.rt` and
-//! `small_works.rt` for `worker_pool`.
+//! `calls.rt` has a call of each kind that the program doesn't make, from `stream_tokens` to `prefix_scan`, and calls
+//! `messages.rt`, in which faults become texts; `words.rt` calls `early_stop`. `lambdas.rt` is for `lambda_expr`,
+//! `walks.rt` for `trace`, `batches.rt` with `random.rt`, and `full_sinks.rt`, for `batch_eval`, `values.rt` for
+//! `job_meaning`, `splits.rt` for `spliterator`, `pieces.rt` and `readers.rt` for `columns`, `handles.rt` for `deques`;
+//! `sums.rt`, a small `Work` of one's own, `held_leaves.rt` and `small_works.rt` for `worker_pool`.
 //!
 //! Nothing stands on this crate, and it promises nothing.
 #![tactic(auto)]
@@ -27,6 +27,8 @@ mod handles;
 mod held_leaves;
 #[cfg(test)]
 mod lambdas;
+#[cfg(test)]
+mod messages;
 #[cfg(test)]
 mod pieces;
 #[cfg(test)]

@@ -1,7 +1,7 @@
 -- Design: what a walk leaves in its sink.
 use Rattle.std.specs.Prelude.{◌≡◌, ℕ, ◌<◌, ◌≤◌, List, ◌++◌, length, take, Result, Ok, Err}
 use Rattle.std.specs.declared.alloc.AllocError.{AllocError}
-use Rattle.trace.specs.declared.item.Item.{Item}
+use Rattle.lambda_values.specs.declared.item.Item.{Item}
 use Rattle.trace.specs.declared.item.End.{End}
 use Rattle.trace.specs.declared.item.End.TheVariants as end
 use Rattle.trace.specs.declared.sink.Flow.{Flow}

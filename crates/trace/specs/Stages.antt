@@ -5,7 +5,7 @@ use Rattle.lambda_values.specs.Earlier.{Numbers}
 use Rattle.lambda_values.specs.Streams.{Inner, inner_of, inner_value}
 use Rattle.lambda_values.specs.Term.{Long, Truth, long_of, truth_of}
 use Rattle.lambda_values.specs.Value.{long_value, truth_value}
-use Rattle.trace.specs.declared.item.Item.{Item}
+use Rattle.lambda_values.specs.declared.item.Item.{Item}
 use Rattle.trace.specs.declared.item.End.TheVariants as end
 use Rattle.trace.specs.declared.stage.Stage.{Stage}
 use Rattle.trace.specs.declared.stage.Stage.TheVariants as stage
@@ -44,9 +44,9 @@ flattened n x (Err k) = faulted k n x
 
 -- what stage number n makes of one item
 abbrev pub of_item : ℕ → AbstractStage → Numbers → Item → Trace
-of_item n (map e) env x = image n x (long_value e x.value env)
-of_item n (filter p) env x = passed n x (truth_value p x.value env)
-of_item n (flat_map g) env x = flattened n x (inner_value g x.value env)
+of_item n (map e) env x = image n x (long_value e x env)
+of_item n (filter p) env x = passed n x (truth_value p x env)
+of_item n (flat_map g) env x = flattened n x (inner_value g x env)
 
 -- what stage number n makes of a trace: what it makes of each item, one after the other
 abbrev pub through : ℕ → AbstractStage → Numbers → Trace → Trace

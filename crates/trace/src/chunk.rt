@@ -11,8 +11,9 @@ mod searching;
 mod shortening;
 
 use crate::NoMemory;
-use crate::item::{End, Item};
+use crate::item::End;
 use crate::sink::{Flow, LongSink};
+use lambda_values::Item;
 pub use rewriting::Rewrite;
 pub use searching::EndTest;
 use std::alloc::Global;
@@ -22,6 +23,8 @@ use std::marker::Model;
 ///
 /// Contracts see a chunk as the trace of that walk. As a sink it takes items until it has ended.
 /// The items are stored in pieces: joining two chunks moves the pieces and no item.
+///
+/// For other programs: `streamrun` keeps no walk as a chunk.
 #[derive(Drop)]
 pub struct Chunk {
     pieces: Vec<Vec<Item>>,

@@ -5,15 +5,15 @@ ghost use Rattle.trace.specs.Trace.{Trace, trace};
 ghost use Rattle.lambda_values.specs.Streams.{run_or_listed};
 ghost use Rattle.trace.specs.Stages.{at_place, pipe, stages_of};
 ghost use Rattle.trace.specs.Sinks.{IsFed, flow_after};
-ghost use Rattle.trace.specs.declared.item.Item.{Item};
+ghost use Rattle.lambda_values.specs.declared.item.Item.{Item};
 ghost use Rattle.trace.specs.declared.item.End.TheVariants as end;
 
 use crate::NoMemory;
-use crate::item::{Fault, Item};
+use crate::item::Fault;
 use crate::sink::{Flow, LongSink};
 use crate::source::{InnerItems, SourceItems};
 use crate::stage::Stage;
-use lambda_values::{Env, FaultKind, ListedValues};
+use lambda_values::{Env, FaultKind, Item, ListedValues};
 
 /// What became of the items that were taken through the stages.
 #[derive(Clone, Copy, Debug, PartialEq, Eq)]
@@ -53,7 +53,7 @@ pub fn feed<S: LongSink>(
         });
     };
     match stage {
-        Stage::Map(image) => match image.eval(item.value, env) {
+        Stage::Map(image) => match image.eval_at(item, env) {
             Ok(value) => {
                 let image = Item {
                     origin: item.origin,
@@ -63,14 +63,14 @@ pub fn feed<S: LongSink>(
             }
             Err(kind) => Ok(Fed::Fault(fault_at(first_stage, item, kind))),
         },
-        Stage::Filter(test) => match test.eval(item.value, env) {
+        Stage::Filter(test) => match test.eval_at(item, env) {
             Ok(true) => feed(later, first_stage + 1, env, item, sink),
             Ok(false) => Ok(Fed::More),
             Err(kind) => Ok(Fed::Fault(fault_at(first_stage, item, kind))),
         },
         Stage::FlatMap(inner) => {
             let mut listed = ListedValues::new();
-            match inner.eval_into(item.value, env, &mut listed) {
+            match inner.eval_into(item, env, &mut listed) {
                 Ok(run) => {
                     let values = InnerItems {
                         origin: item.origin,

@@ -1,14 +1,6 @@
-//! Items of a stream, and how a walk over them ends.
+//! How a walk over items ends.
 
 use lambda_values::FaultKind;
-
-/// A value on its way through the stages.
-#[derive(Clone, Copy, Debug, PartialEq, Eq)]
-pub struct Item {
-    /// The place in the source, from 0, of the item that this value came from.
-    pub origin: u64,
-    pub value: i64,
-}
 
 /// The first fault that a walk met.
 #[derive(Clone, Copy, Debug, PartialEq, Eq)]

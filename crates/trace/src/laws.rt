@@ -4,7 +4,7 @@ ghost use Rattle.lambda_values.specs.Earlier.{Numbers};
 ghost use Rattle.std.specs.Prelude.{◌≡◌, ℕ, List, [], ◌∷◌};
 ghost use Rattle.trace.specs.Trace.{Trace, trace, nothing, append, each};
 ghost use Rattle.trace.specs.Stages.{AbstractStage, pipe};
-ghost use Rattle.trace.specs.declared.item.Item.{Item};
+ghost use Rattle.lambda_values.specs.declared.item.Item.{Item};
 ghost use Rattle.trace.specs.declared.item.Fault.{Fault};
 ghost use Rattle.trace.specs.declared.item.End.{End};
 ghost use Rattle.trace.specs.declared.item.End.TheVariants as end;

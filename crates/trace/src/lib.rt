@@ -21,7 +21,8 @@ mod stage;
 
 pub use chunk::{Chunk, EndTest, Rewrite};
 pub use feeding::{Fed, asked, feed, feed_all};
-pub use item::{End, Fault, Item};
+pub use item::{End, Fault};
+pub use lambda_values::Item;
 pub use laws::{
     joining_is_associative, nothing_is_the_unit, stages_go_item_by_item, stages_keep_joining,
 };

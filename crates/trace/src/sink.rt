@@ -1,11 +1,11 @@
 //! Where the items go after the last stage.
 
 ghost use Rattle.std.specs.Prelude.{◌≡◌, List, [], ◌∷◌, ◌++◌, IfOk, OnOk, OnErr};
-ghost use Rattle.trace.specs.declared.item.Item.{Item};
+ghost use Rattle.lambda_values.specs.declared.item.Item.{Item};
 ghost use Rattle.trace.specs.declared.sink.Flow.{Flow};
 
 use crate::NoMemory;
-use crate::item::Item;
+use lambda_values::Item;
 
 /// Whether a sink wants another item.
 #[derive(Clone, Copy, Debug, PartialEq, Eq)]

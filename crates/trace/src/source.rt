@@ -8,10 +8,9 @@ ghost use Rattle.lambda_values.specs.Streams.{run_or_listed};
 ghost use Rattle.trace.specs.Stages.{at_place};
 ghost use Rattle.trace.specs.Trace.{trace};
 ghost use Rattle.trace.specs.declared.item.End.TheVariants as end;
-ghost use Rattle.trace.specs.declared.item.Item.{Item};
+ghost use Rattle.lambda_values.specs.declared.item.Item.{Item};
 
-use crate::item::Item;
-use lambda_values::Run;
+use lambda_values::{Item, Run};
 
 /// The largest number of values that a source may have: 2^62.
 pub const MAX_SOURCE_SIZE: u64 = 1 << 62;

@@ -12,9 +12,9 @@ syntax match streamrunConstant /\<\%(true\|false\)\>/
 syntax match streamrunClass /\<\%(Math\|Long\|LongStream\|long\)\>/
 syntax match streamrunOperation /\<\%(range\|rangeClosed\|of\|empty\|column\|concat\|result\)\>\ze\s*(/
 syntax match streamrunOperation /\<\%(map\|filter\|flatMap\|limit\|skip\|takeWhile\|dropWhile\|prefix\)\>\ze\s*(/
-syntax match streamrunOperation /\<\%(sum\|count\|min\|max\|findFirst\|toArray\|reduce\)\>\ze\s*(/
-syntax match streamrunOperation /\<\%(anyMatch\|allMatch\|noneMatch\|onFault\)\>\ze\s*(/
-syntax match streamrunOperation /^\s*\zsversion\ze\s\+2\s*$/
+syntax match streamrunOperation /\<\%(sum\|sumExact\|count\|min\|max\|findFirst\|toArray\|reduce\)\>\ze\s*(/
+syntax match streamrunOperation /\<\%(anyMatch\|allMatch\|noneMatch\|onFault\|cell\|row\)\>\ze\s*(/
+syntax match streamrunOperation /^\s*\zsversion\ze\s\+[23]\s*$/
 syntax match streamrunMethod /\%(\<\%(Math\|Long\)\s*\.\s*\)\@<=\h\w*/
 syntax match streamrunMethod /\%(::\s*\)\@<=\h\w*/
 syntax match streamrunConstant /\%(\<Long\s*\.\s*\)\@<=\%(MAX_VALUE\|MIN_VALUE\)\>/

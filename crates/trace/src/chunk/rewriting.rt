@@ -2,10 +2,10 @@
 
 ghost use Rattle.std.specs.Prelude.{◌≡◌, ◌≢◌, [], ◌++◌, All, List, flat_map, length};
 ghost use Rattle.trace.specs.Trace.{trace};
-ghost use Rattle.trace.specs.declared.item.Item.{Item};
+ghost use Rattle.lambda_values.specs.declared.item.Item.{Item};
 
 use super::Chunk;
-use crate::item::Item;
+use lambda_values::Item;
 
 /// A pass that changes items where they are stored.
 pub trait Rewrite {

@@ -4,11 +4,12 @@ ghost use Rattle.std.specs.Prelude.{◌≡◌, Option, ℕ, ◌+◌, IfSome, IfN
 ghost use Rattle.trace.specs.Cuts.{IsCut};
 ghost use Rattle.trace.specs.Stops.{stop_at, kept_before, kept_from};
 ghost use Rattle.trace.specs.declared.item.End.{End};
-ghost use Rattle.trace.specs.declared.item.Item.{Item};
+ghost use Rattle.lambda_values.specs.declared.item.Item.{Item};
 
 use super::Chunk;
 use super::shortening::{keep_back, keep_front};
-use crate::item::{End, Item};
+use crate::item::End;
+use lambda_values::Item;
 
 /// What may end a walk at an item.
 pub trait EndTest {

@@ -6,7 +6,8 @@ ghost use Rattle.trace.specs.Trace.{trace};
 ghost use Rattle.trace.specs.Cuts.{IsCut, IsInside};
 
 use super::Chunk;
-use crate::item::{End, Item};
+use crate::item::End;
+use lambda_values::Item;
 
 impl Chunk {
     /// Whether there are at least `n` items.

@@ -2,7 +2,7 @@ use Rattle.std.proofs.Common.{◌+◌, List, ◌++◌, length, take, drop, sym, 
 use Rattle.std.proofs.lemmas.List.{length-take}
 use Rattle.trace.specs.Cover.{counted}
 use Rattle.trace.proofs.Sources.{length-counted, length-placed}
-use Rattle.trace.specs.declared.item.Item.{Item}
+use Rattle.lambda_values.specs.declared.item.Item.{Item}
 use Rattle.trace.specs.Stages.{stages_of}
 use Rattle.batch_eval.specs.BatchItems.{batch_items}
 use Rattle.batch_eval.specs.declared.batch_items.BatchItems.TheVariants as items

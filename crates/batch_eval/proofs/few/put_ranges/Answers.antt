@@ -1,6 +1,6 @@
 use Rattle.std.proofs.Common.{◌≡◌, ◌+◌, ℕ, ℤ, List, arith, rules, sym, ◌∙◌, None, w64, to_z, of_z}
 use Rattle.lambda_values.specs.Streams.{inner_of, run_values}
-use Rattle.trace.specs.declared.item.Item.{Item}
+use Rattle.lambda_values.specs.declared.item.Item.{Item}
 use Rattle.trace.specs.Stages.{at_place}
 use Rattle.trace.proofs.Ranges.{length-at_place}
 use Rattle.trace.proofs.Sources.{length-counted}

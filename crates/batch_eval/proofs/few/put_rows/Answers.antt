@@ -1,6 +1,6 @@
 use Rattle.std.proofs.Common.{◌≡◌, ◌+◌, ◌-◌, ◌*◌, ℕ, arith, ◌∙◌, None, subst, sym}
 use Rattle.lambda_values.specs.Streams.{inner_of}
-use Rattle.trace.specs.declared.item.Item.{Item}
+use Rattle.lambda_values.specs.declared.item.Item.{Item}
 use Rattle.batch_eval.specs.Lanes.{at}
 use Rattle.batch_eval.specs.Batches.{item_at, lanes, origin_at}
 use Rattle.batch_eval.specs.InnerColumns.{ArePut, row}

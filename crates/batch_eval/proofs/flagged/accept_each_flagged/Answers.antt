@@ -1,6 +1,6 @@
 use Rattle.std.proofs.Common.{◌≡◌, ◌<◌, List, ◌++◌, [], ◌∷◌, length, true, sym, ap, subst, ◌∙◌, append_assoc, rules}
 use Rattle.std.proofs.lemmas.Result.{err_from_is_err_and}
-use Rattle.trace.specs.declared.item.Item.{Item}
+use Rattle.lambda_values.specs.declared.item.Item.{Item}
 use Rattle.batch_eval.specs.Batches.{holds, item_at}
 use Rattle.batch_eval.specs.Lanes.{at}
 use Rattle.batch_eval.proofs.FlaggedLemmas.{flagged_enough, flagged_refused, front, front_set, front_unset}

@@ -1,22 +1,22 @@
-use Rattle.std.proofs.Common.{◌≡◌, ◌+◌, ◌<◌, ◌≤◌, ◌++◌, ℕ, ℤ, w64, to_z, of_z, List, [], take, length, Ok, Err, Some, ap, sym, subst, ◌∙◌, rules, add-one, arith, refl}
+use Rattle.std.proofs.Common.{◌≡◌, ◌+◌, ◌≤◌, ◌++◌, ℤ, List, [], take, length, Ok, Err, Some, ap, sym, subst, ◌∙◌, rules, add-one, arith, refl}
 use Rattle.std.proofs.lemmas.List.{append-nil, take_all}
 use Rattle.std.proofs.lemmas.Result.{err_from_is_err_and}
-use Rattle.trace.specs.declared.item.Item.{Item}
+use Rattle.lambda_values.specs.declared.item.Item.{Item}
 use Rattle.trace.specs.declared.item.End.TheVariants as end
 use Rattle.trace.specs.declared.item.End.{End}
 use Rattle.trace.specs.declared.item.Fault.{Fault}
 use Rattle.trace.specs.Trace.{Trace, trace, each}
 use Rattle.trace.specs.Sinks.{IsFed}
 use Rattle.trace.specs.Stages.{at_place, filter, flat_map, flattened, of_item}
-use Rattle.lambda_values.specs.Streams.{inner_of, inner_value, run_or_listed}
+use Rattle.lambda_values.specs.Streams.{inner_of, run_or_listed}
 use Rattle.lambda_values.specs.Term.{truth_of}
 use Rattle.batch_eval.specs.Batches.{item_at, laid_items, lanes}
-use Rattle.batch_eval.specs.InnerColumns.{given}
-use Rattle.batch_eval.specs.Lanes.{at}
 use Rattle.batch_eval.specs.Pipelines.{piped}
 use Rattle.batch_eval.specs.Pours.{Holds}
 use Rattle.batch_eval.proofs.SetItemLemmas.{none_left}
 use Rattle.batch_eval.proofs.WaitingItemLemmas.{holds_none, holds_ended, holds_added, holds_further, flushed, poured_rest, inner_stopped, each_next, each_fault, each_whole}
+use Rattle.batch_eval.proofs.Items.{length_lanes}
+use Rattle.batch_eval.proofs.RowLemmas.{operands_laid}
 use Rattle.batch_eval.proofs.staging.+batches.Goals as goal
 
 pub feed_batch-returns-in-Some-split_first_mut-clause-fed : goal.feed_batch-returns-in-Some-split_first_mut-clause-fed
@@ -99,6 +99,20 @@ pour-returns-clause-poured g t c = λ xs whole held.
     let past : length zs ≤ c.loop-position.position = omega (arith, c.loop-position-test.false, c.count-count.ensures) in
     subst (λ (ys : List Item). Holds g.S.LongSink.has_taken c.args.line xs (whole ++ ys) c.loop-position.pending.items c.loop-position.sink) (take_all c.loop-position.position zs past) (c.loop-position.invariant.held xs whole held)
 
+pub feed_inner-add_few-position-requires-clause-lanes : goal.feed_inner-add_few-position-requires-clause-lanes
+feed_inner-add_few-position-requires-clause-lanes g t c =
+    let l = c.lanes.result in
+    let size = length_lanes (length l.values.now) (item_at l.start l.places.now l.values.now) in
+    let same : length (laid_items l.start l.places.now l.values.now) ≡ length c.args.batch.now.items = ap length c.lanes.ensures in
+    omega (arith, size, same, c.eval_columns-lanes.ensures.items)
+
+pub feed_inner-add_few-position-requires-in-loop-position-clause-lanes : goal.feed_inner-add_few-position-requires-in-loop-position-clause-lanes
+feed_inner-add_few-position-requires-in-loop-position-clause-lanes g t c =
+    let l = c.lanes.result in
+    let size = length_lanes (length l.values.now) (item_at l.start l.places.now l.values.now) in
+    let same : length (laid_items l.start l.places.now l.values.now) ≡ length c.args.batch.now.items = ap length c.lanes.ensures in
+    omega (arith, size, same, c.eval_columns-lanes.ensures.items)
+
 pub feed_inner-loop-position-init : goal.feed_inner-loop-position-init
 feed_inner-loop-position-init g t c =
     let h = g.S.LongSink.has_taken in
@@ -109,7 +123,8 @@ feed_inner-loop-position-init g t c =
     let none : List Item = [] in
     let inner = inner_of c.args.stage.inner.now in
     let columns = c.eval_columns-lanes in
-    let operands = subst (λ (xs : List ℤ). (k : ℕ) → k < columns.result → inner_value inner (at xs k) env ≡ given inner columns.new.registers k) c.values.ensures columns.ensures.operands in
+    let l = c.lanes.result in
+    let operands = operands_laid inner env l.start l.places.now l.values.now columns.result columns.new.registers os c.lanes.ensures columns.ensures.items columns.ensures.operands in
     let added = c.add_few-position.ensures.added c.args.stage.number env operands in
     let front : Trace = each (of_item c.args.stage.number (flat_map inner) env) (take c.add_few-position.result os) end.Done in
     let next : front ≡ trace (none ++ added.0) end.Done = added.2 refl in
@@ -131,14 +146,14 @@ feed_inner-loop-position-preserved g t c =
     let f : Item → Trace = of_item c.args.stage.number (flat_map (inner_of c.args.stage.inner.now)) env in
     let zs = at_place y.origin (run_or_listed c.in-Ok.run' c.as_slice.result.now) in
     let front : Trace = each f (take p os) end.Done in
-    let same : to_z w64 (of_z w64 c.item_at-item.result.value) ≡ c.item_at-item.result.value = search rules in
-    let gives : f y ≡ trace zs end.Done = ap (λ (v : ℤ). flattened c.args.stage.number y (inner_value (inner_of c.args.stage.inner.now) v env)) (sym same) ∙ ap (flattened c.args.stage.number y) (c.in-Ok.ensures.ok ∙ ap (λ (vs : List ℤ). Ok (run_or_listed c.in-Ok.run' vs)) (sym c.as_slice.ensures.value)) in
+    let gives : f y ≡ trace zs end.Done = ap (flattened c.args.stage.number y) (c.in-Ok.ensures.ok ∙ ap (λ (vs : List ℤ). Ok (run_or_listed c.in-Ok.run' vs)) (sym c.as_slice.ensures.value)) in
     let front' : Trace = each f (take (p + 1) os) end.Done in
     let next : front' ≡ trace (front.items ++ zs) end.Done = each_next f os p y zs c.item_at-item.ensures c.loop-position.invariant.done gives in
     let poured = rw c.in-More.is at c.in_ok-stopped-in-Ok.ensures.poured in
     let inner = inner_of c.args.stage.inner.now in
     let columns = c.eval_columns-lanes in
-    let operands = subst (λ (xs : List ℤ). (k : ℕ) → k < columns.result → inner_value inner (at xs k) env ≡ given inner columns.new.registers k) c.values.ensures columns.ensures.operands in
+    let l = c.lanes.result in
+    let operands = operands_laid inner env l.start l.places.now l.values.now columns.result columns.new.registers os c.lanes.ensures columns.ensures.items columns.ensures.operands in
     let further = c.add_few-position-in-loop-position in
     let added = further.ensures.added c.args.stage.number env operands in
     let last : Trace = each f (take further.result os) end.Done in
@@ -162,8 +177,7 @@ feed_inner-returns-in_default-clause-fed g t c = λ xs took.
     let f : Item → Trace = of_item c.args.stage.number (flat_map (inner_of c.args.stage.inner.now)) env in
     let zs = at_place y.origin (run_or_listed c.in-Ok.run' c.as_slice.result.now) in
     let front : Trace = each f (take p os) end.Done in
-    let same : to_z w64 (of_z w64 c.item_at-item.result.value) ≡ c.item_at-item.result.value = search rules in
-    let gives : f y ≡ trace zs end.Done = ap (λ (v : ℤ). flattened c.args.stage.number y (inner_value (inner_of c.args.stage.inner.now) v env)) (sym same) ∙ ap (flattened c.args.stage.number y) (c.in-Ok.ensures.ok ∙ ap (λ (vs : List ℤ). Ok (run_or_listed c.in-Ok.run' vs)) (sym c.as_slice.ensures.value)) in
+    let gives : f y ≡ trace zs end.Done = ap (flattened c.args.stage.number y) (c.in-Ok.ensures.ok ∙ ap (λ (vs : List ℤ). Ok (run_or_listed c.in-Ok.run' vs)) (sym c.as_slice.ensures.value)) in
     inner_stopped h line xs f os p y zs e (Ok c.in_ok-stopped-in-Ok.stopped) c.pour.new.pending.items c.pour.new.sink c.item_at-item.ensures c.loop-position.invariant.done gives (λ e. c.in_default.not-More cc) (c.in_ok-stopped-in-Ok.ensures.poured xs front.items (c.loop-position.invariant.held xs took))
 
 pub feed_inner-returns-in_err-stopped-in-Ok-clause-fed : goal.feed_inner-returns-in_err-stopped-in-Ok-clause-fed
@@ -179,8 +193,7 @@ feed_inner-returns-in_err-stopped-in-Ok-clause-fed g t c = λ xs took.
     let f : Item → Trace = of_item c.args.stage.number (flat_map (inner_of c.args.stage.inner.now)) env in
     let zs = at_place y.origin (run_or_listed c.in-Ok.run' c.as_slice.result.now) in
     let front : Trace = each f (take p os) end.Done in
-    let same : to_z w64 (of_z w64 c.item_at-item.result.value) ≡ c.item_at-item.result.value = search rules in
-    let gives : f y ≡ trace zs end.Done = ap (λ (v : ℤ). flattened c.args.stage.number y (inner_value (inner_of c.args.stage.inner.now) v env)) (sym same) ∙ ap (flattened c.args.stage.number y) (c.in-Ok.ensures.ok ∙ ap (λ (vs : List ℤ). Ok (run_or_listed c.in-Ok.run' vs)) (sym c.as_slice.ensures.value)) in
+    let gives : f y ≡ trace zs end.Done = ap (flattened c.args.stage.number y) (c.in-Ok.ensures.ok ∙ ap (λ (vs : List ℤ). Ok (run_or_listed c.in-Ok.run' vs)) (sym c.as_slice.ensures.value)) in
     rw q.1 (inner_stopped h line xs f os p y zs e (Err c.in_err-stopped-in-Ok.field-0.0) c.pour.new.pending.items c.pour.new.sink c.item_at-item.ensures c.loop-position.invariant.done gives (λ e. cc) (c.in_err-stopped-in-Ok.ensures.poured xs front.items (c.loop-position.invariant.held xs took)))
 
 pub feed_inner-returns-in-Err-clause-fed : goal.feed_inner-returns-in-Err-clause-fed
@@ -195,8 +208,7 @@ feed_inner-returns-in-Err-clause-fed g t c = λ xs took.
     let f : Item → Trace = of_item c.args.stage.number (flat_map (inner_of c.args.stage.inner.now)) env in
     let front : Trace = each f (take p os) end.Done in
     let fault : Fault = record { kind = c.in-Err.kind; stage = c.args.stage.number; origin = Some y.origin } in
-    let same : to_z w64 (of_z w64 c.item_at-item.result.value) ≡ c.item_at-item.result.value = search rules in
-    let gives : f y ≡ trace [] (end.Fault fault) = ap (λ (v : ℤ). flattened c.args.stage.number y (inner_value (inner_of c.args.stage.inner.now) v env)) (sym same) ∙ ap (flattened c.args.stage.number y) c.in-Err.ensures.fault in
+    let gives : f y ≡ trace [] (end.Fault fault) = ap (flattened c.args.stage.number y) c.in-Err.ensures.fault in
     let whole : each f os e ≡ trace front.items (end.Fault fault) = each_fault f os p y e fault c.item_at-item.ensures c.loop-position.invariant.done gives in
     subst (λ (u : Trace). IsFed h xs (piped line u) c.finish.result c.finish.new.sink) (sym whole) (c.finish.ensures.fed xs front.items (c.loop-position.invariant.held xs took))
 

@@ -3,7 +3,7 @@ use Rattle.std.proofs.lemmas.List.{length-map}
 use Rattle.csv.specs.Reading.{strip_bom}
 use Rattle.columns.specs.Cells.{records_of}
 use Rattle.columns.specs.Records.{IsReading}
-use Rattle.columns.specs.TableOfColumns.{named}
+use Rattle.tables.specs.TableOfColumns.{named}
 use Rattle.columns.proofs.CsvLemmas.{AreRowsOf-same}
 use Rattle.columns.proofs.FrontLemmas.{rows_of_text}
 use Rattle.columns.proofs.by_records.put_records.Goals as goal

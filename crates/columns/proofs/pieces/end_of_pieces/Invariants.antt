@@ -1,7 +1,7 @@
 use Rattle.std.proofs.Common.{◌≤◌, List, All, drop, length, take}
 use Rattle.columns.specs.Pieces.{IsPieceThere, append_pieces}
 use Rattle.columns.specs.PlainRows.{AreRead}
-use Rattle.columns.specs.Table.{NamedColumn}
+use Rattle.tables.specs.Table.{NamedColumn}
 use Rattle.columns.proofs.pieces.end_of_pieces.Given as goal
 
 -- the pieces so far are read, one after the other

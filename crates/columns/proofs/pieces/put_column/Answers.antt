@@ -1,6 +1,6 @@
 use Rattle.std.proofs.Common.{◌≡◌, ◌∙◌, ◌++◌, map, rules, sym, ap}
 use Rattle.columns.specs.Pieces.{cells_at}
-use Rattle.columns.specs.TableOfColumns.{named}
+use Rattle.tables.specs.TableOfColumns.{named}
 use Rattle.columns.proofs.PieceLemmas.{cells_there, put_more}
 use Rattle.columns.proofs.pieces.put_column.Goals as goal
 

@@ -1,6 +1,6 @@
 use Rattle.std.proofs.Common.{◌≡◌, false, take}
 use Rattle.columns.specs.Pieces.{with_pieces}
-use Rattle.columns.specs.TableOfColumns.{named}
+use Rattle.tables.specs.TableOfColumns.{named}
 use Rattle.columns.proofs.pieces.put_column.Given as goal
 
 -- the cells of the pieces so far are put

@@ -1,7 +1,7 @@
 use Rattle.std.proofs.Common.{◌≡◌, All, length, map, rules, sym, drop, []}
 use Rattle.std.proofs.lemmas.List.{drop_all, length-map}
 use Rattle.columns.specs.Pieces.{IsPieceThere, append_pieces}
-use Rattle.columns.specs.TableOfColumns.{named}
+use Rattle.tables.specs.TableOfColumns.{named}
 use Rattle.columns.proofs.pieces.put_plain_text.Goals as goal
 
 pub returns-then-put_pieces : goal.returns-then-put_pieces

@@ -2,7 +2,7 @@ use Rattle.std.proofs.Common.{◌≡◌, All, arith, length, map, rules, sym}
 use Rattle.std.proofs.lemmas.Grind.{common_steps}
 use Rattle.std.proofs.lemmas.List.{length-map}
 use Rattle.columns.specs.Pieces.{IsPieceThere, append_pieces}
-use Rattle.columns.specs.TableOfColumns.{named}
+use Rattle.tables.specs.TableOfColumns.{named}
 use Rattle.columns.proofs.PlainRowLemmas.{AreRead-join}
 use Rattle.columns.proofs.pieces.read_in_turns.Goals as goal
 

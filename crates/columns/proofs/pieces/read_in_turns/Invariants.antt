@@ -1,6 +1,6 @@
 use Rattle.std.proofs.Common.{◌≤◌, ◌<◌, drop, length, map}
 use Rattle.columns.specs.PlainRows.{AreRead}
-use Rattle.columns.specs.TableOfColumns.{named}
+use Rattle.tables.specs.TableOfColumns.{named}
 use Rattle.columns.proofs.pieces.read_in_turns.Given as goal
 
 -- the rows of the pieces so far are put

@@ -1,6 +1,6 @@
 use Rattle.std.proofs.Common.{◌≡◌, ◌<◌, ◌+◌, ◌-◌, arith, length, map, rules, sym}
 use Rattle.std.proofs.lemmas.List.{length-map}
-use Rattle.columns.specs.TableOfColumns.{named}
+use Rattle.tables.specs.TableOfColumns.{named}
 use Rattle.columns.proofs.PlainLemmas.{both_some}
 use Rattle.columns.proofs.PlainRowLemmas.{AreCellsThere-more, IsRowThere-last}
 use Rattle.columns.proofs.plain.read_plain_row.Goals as goal

@@ -1,6 +1,6 @@
 use Rattle.std.proofs.Common.{◌≤◌, drop, length, map}
 use Rattle.columns.specs.PlainRows.{AreCellsThere}
-use Rattle.columns.specs.TableOfColumns.{named}
+use Rattle.tables.specs.TableOfColumns.{named}
 use Rattle.columns.proofs.plain.read_plain_row.Given as goal
 
 -- the cells so far are read

@@ -1,6 +1,6 @@
 use Rattle.std.proofs.Common.{◌≡◌, ◌+◌, drop, get_or, length, map, rules, sym}
 use Rattle.std.proofs.lemmas.List.{length-map, drop_more}
-use Rattle.columns.specs.TableOfColumns.{named}
+use Rattle.tables.specs.TableOfColumns.{named}
 use Rattle.columns.proofs.PlainRowLemmas.{AreRead-join, AreRead-row, AreRead-skip}
 use Rattle.columns.proofs.plain.read_plain_rows.Goals as goal
 

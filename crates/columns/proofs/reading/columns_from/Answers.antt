@@ -1,7 +1,7 @@
 use Rattle.std.proofs.Common.{◌≡◌, ◌∙◌, Err, ap, map, rules}
 use Rattle.std.proofs.lemmas.List.{places, with_items_is}
 use Rattle.columns.specs.Cells.{records_of}
-use Rattle.columns.specs.TableOfColumns.{named}
+use Rattle.tables.specs.TableOfColumns.{named}
 use Rattle.columns.proofs.FileLemmas.{columns_given, first_record, header_refused, no_record, rows_refused}
 use Rattle.columns.proofs.TableLemmas.{length_of_header}
 use Rattle.columns.proofs.reading.columns_from.Goals as goal

@@ -2,7 +2,7 @@ use Rattle.std.proofs.Common.{◌∙◌, Ok, [], ap, drop, map, rules, sym}
 use Rattle.std.proofs.lemmas.List.{drop_all, places, with_items_is}
 use Rattle.csv.specs.Reading.{strip_bom}
 use Rattle.columns.specs.PlainRows.{AreRead}
-use Rattle.columns.specs.TableOfColumns.{named}
+use Rattle.tables.specs.TableOfColumns.{named}
 use Rattle.columns.proofs.FrontLemmas.{IsFront-file}
 use Rattle.columns.proofs.reading.plain_columns_by.Goals as goal
 

@@ -2,7 +2,7 @@ use Rattle.std.proofs.Common.{◌≡◌, ◌∙◌, ◌++◌, Err, Ok, ap, map, 
 use Rattle.std.proofs.lemmas.List.{places, with_items_is}
 use Rattle.csv.specs.Reading.{strip_bom}
 use Rattle.columns.specs.Fronts.{IsFront}
-use Rattle.columns.specs.TableOfColumns.{named}
+use Rattle.tables.specs.TableOfColumns.{named}
 use Rattle.columns.proofs.FrontLemmas.{file_answer, file_columns, file_fault}
 use Rattle.columns.proofs.rounds.columns_after.Goals as goal
 

@@ -1,7 +1,7 @@
 use Rattle.std.proofs.Common.{◌≡◌, ◌<◌, ◌++◌, ◌∙◌, [], ap, arith, drop, map, rules, take}
 use Rattle.std.proofs.lemmas.List.{take_rest}
 use Rattle.columns.specs.PlainRows.{AreRead}
-use Rattle.columns.specs.TableOfColumns.{named}
+use Rattle.tables.specs.TableOfColumns.{named}
 use Rattle.columns.proofs.FrontLemmas.{Goes-other, Goes-round}
 use Rattle.columns.proofs.rounds.next_round.Goals as goal
 

@@ -1,5 +1,5 @@
 use Rattle.std.proofs.Common.{◌≡◌, map}
-use Rattle.columns.specs.TableOfColumns.{named}
+use Rattle.tables.specs.TableOfColumns.{named}
 use Rattle.columns.proofs.FrontLemmas.{IsPutBy-last}
 use Rattle.columns.proofs.rounds.put_last.Goals as goal
 

@@ -1,6 +1,6 @@
 use Rattle.std.proofs.Common.{◌≡◌, Err, arith, map, rules, subst}
 use Rattle.columns.specs.Fronts.{IsPutBy}
-use Rattle.columns.specs.TableOfColumns.{named}
+use Rattle.tables.specs.TableOfColumns.{named}
 use Rattle.columns.proofs.FrontLemmas.{Goes-failed, Goes-on, Goes-put}
 use Rattle.columns.proofs.rounds.put_rounds.Goals as goal
 

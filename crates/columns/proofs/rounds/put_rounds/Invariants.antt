@@ -1,6 +1,6 @@
 use Rattle.std.proofs.Common.{◌<◌, ◌≤◌, length, map}
 use Rattle.columns.specs.Fronts.{Goes}
-use Rattle.columns.specs.TableOfColumns.{named}
+use Rattle.tables.specs.TableOfColumns.{named}
 use Rattle.columns.proofs.rounds.put_rounds.Given as goal
 
 -- the rounds so far are put

@@ -2,7 +2,7 @@ use Rattle.std.proofs.Common.{◌≡◌, ◌∙◌, ap, drop, map, subst}
 use Rattle.std.proofs.lemmas.List.{take_rest}
 use Rattle.csv.specs.Reading.{strip_bom}
 use Rattle.columns.specs.Fronts.{IsPutBy}
-use Rattle.columns.specs.TableOfColumns.{named}
+use Rattle.tables.specs.TableOfColumns.{named}
 use Rattle.columns.proofs.rounds.put_rows_after.Goals as goal
 
 pub returns-in-Ok-clause-put : goal.returns-in-Ok-clause-put

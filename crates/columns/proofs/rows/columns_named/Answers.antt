@@ -4,7 +4,7 @@ use Rattle.std.proofs.lemmas.List.{map_push, take_more, take_all}
 use Rattle.std.proofs.lemmas.Option.{slice_get_within, get_or_from_slice_get}
 use Rattle.csv.specs.Records.{fields_of}
 use Rattle.columns.specs.Table.{columns_under}
-use Rattle.columns.specs.TableOfColumns.{named}
+use Rattle.tables.specs.TableOfColumns.{named}
 use Rattle.columns.proofs.RowLemmas.{columns_under-append, field_at_is, slice_get_end}
 use Rattle.columns.proofs.rows.columns_named.Goals as goal
 

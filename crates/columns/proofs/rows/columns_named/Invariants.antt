@@ -1,7 +1,7 @@
 use Rattle.std.proofs.Common.{◌≡◌, ◌≤◌, [], length, map, take}
 use Rattle.csv.specs.Records.{fields_of}
 use Rattle.columns.specs.Table.{columns_under}
-use Rattle.columns.specs.TableOfColumns.{named}
+use Rattle.tables.specs.TableOfColumns.{named}
 use Rattle.columns.proofs.rows.columns_named.Given as goal
 
 -- the columns so far stand under the names so far

@@ -1,7 +1,8 @@
 use Rattle.std.proofs.Common.{◌≡◌, ◌+◌, ◌++◌, drop, map, take}
 use Rattle.csv.specs.Records.{fields_of}
 use Rattle.columns.specs.Refusals.{cell_fault}
-use Rattle.columns.specs.TableOfColumns.{named, with_row}
+use Rattle.columns.specs.TableOfColumns.{with_row}
+use Rattle.tables.specs.TableOfColumns.{named}
 use Rattle.columns.proofs.rows.read_row.Given as goal
 
 -- the cells so far are numbers and stand in their columns; what is left of the row is still to be put under the columns

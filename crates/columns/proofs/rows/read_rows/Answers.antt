@@ -1,5 +1,5 @@
 use Rattle.std.proofs.Common.{◌≡◌, Err, length, map, rules}
-use Rattle.columns.specs.TableOfColumns.{named}
+use Rattle.tables.specs.TableOfColumns.{named}
 use Rattle.columns.proofs.RowLemmas.{RowsLeft-end, RowsLeft-fault, RowsLeft-more}
 use Rattle.columns.proofs.rows.read_rows.Goals as goal
 

@@ -1,6 +1,6 @@
 use Rattle.std.proofs.Common.{ℕ, List, length, map}
 use Rattle.columns.specs.Records.{IsReading, IsSetUp}
-use Rattle.columns.specs.TableOfColumns.{named}
+use Rattle.tables.specs.TableOfColumns.{named}
 use Rattle.columns.proofs.RowLemmas.{RowsLeft}
 use Rattle.columns.proofs.rows.read_rows.Given as goal
 

@@ -1,7 +1,7 @@
 use Rattle.std.proofs.Common.{◌≡◌, rules}
 use Rattle.std.specs.Io.KnownBytes.{IsAtEnd}
 use Rattle.columns.specs.declared.fault.ColumnFault.TheVariants as column
-use Rattle.run_settings.specs.SettingsParts.{form_of}
+use Rattle.run_settings.specs.Asked.{asked_of}
 use Rattle.engine.specs.Run.{Faulted, Input, Reported}
 use Rattle.engine.proofs.RunLemmas.{HasTable, some_table, no_table, columns_refused, err_with, ok_with, on_ok}
 use Rattle.engine.proofs.running.run.Given.{Over}
@@ -10,7 +10,7 @@ use Rattle.engine.proofs.running.run.Goals.{In-Ok}
 
 pub returns-in-Err-clause-fault : goal.returns-in-Err-clause-fault
 returns-in-Err-clause-fault g c =
-    columns_refused g.C.CountedRead.remaining c.args.columns (g.J.CountedRead.remaining c.args.jobs.now) (form_of c.args.settings.now) (g.W.CountedWrite.contents c.args.writer.now) (g.W.CountedWrite.contents c.args.writer.now) c.in-Some.reader c.read_columns_by.result c.in-Err.fault c.in-Some.is c.read_columns_by.ensures.cells c.read_columns_by.ensures.some_bytes c.in-Err.is (search rules)
+    columns_refused g.C.CountedRead.remaining c.args.columns (g.J.CountedRead.remaining c.args.jobs.now) (asked_of c.args.settings.now) (g.W.CountedWrite.contents c.args.writer.now) (g.W.CountedWrite.contents c.args.writer.now) c.in-Some.reader c.read_columns_by.result c.in-Err.fault c.in-Some.is c.read_columns_by.ensures.cells c.read_columns_by.ensures.some_bytes c.in-Err.is (search rules)
 
 pub returns-in-Err-clause-columns_failed : goal.returns-in-Err-clause-columns_failed
 returns-in-Err-clause-columns_failed g c is =
@@ -22,12 +22,12 @@ table_of_file g c = some_table g.C.CountedRead.remaining c.args.columns c.in-Ok.
 
 pub returns-in-Ok-clause-report : goal.returns-in-Ok-clause-report
 returns-in-Ok-clause-report g c =
-    ok_with g.C.CountedRead.remaining c.args.columns (g.J.CountedRead.remaining c.args.jobs.now) (form_of c.args.settings.now) c.in-Ok.table c.run_with.result
+    ok_with g.C.CountedRead.remaining c.args.columns (g.J.CountedRead.remaining c.args.jobs.now) (asked_of c.args.settings.now) c.in-Ok.table c.run_with.result
     (λ (input : Input). Reported input (g.W.CountedWrite.contents c.args.writer.now) (g.W.CountedWrite.contents c.run_with.new.writer)) (table_of_file g (goal.at.returns-in-Ok-clause-report g c).In-Ok) c.run_with.ensures.report
 
 pub returns-in-Ok-clause-fault : goal.returns-in-Ok-clause-fault
 returns-in-Ok-clause-fault g c =
-    err_with g.C.CountedRead.remaining c.args.columns (g.J.CountedRead.remaining c.args.jobs.now) (form_of c.args.settings.now) c.in-Ok.table c.run_with.result
+    err_with g.C.CountedRead.remaining c.args.columns (g.J.CountedRead.remaining c.args.jobs.now) (asked_of c.args.settings.now) c.in-Ok.table c.run_with.result
     (λ f (input : Input). Faulted input (g.W.CountedWrite.contents c.args.writer.now) (g.W.CountedWrite.contents c.run_with.new.writer) f) (table_of_file g (goal.at.returns-in-Ok-clause-fault g c).In-Ok) c.run_with.ensures.fault
 
 pub returns-in-Ok-clause-columns_read_up : goal.returns-in-Ok-clause-columns_read_up
@@ -35,12 +35,12 @@ returns-in-Ok-clause-columns_read_up g c = rw c.in-Some.is (on_ok c.run_with.res
 
 pub returns-in-None-clause-report : goal.returns-in-None-clause-report
 returns-in-None-clause-report g c =
-    ok_with g.C.CountedRead.remaining c.args.columns (g.J.CountedRead.remaining c.args.jobs.now) (form_of c.args.settings.now) c.none.result c.run_with-in-None.result
+    ok_with g.C.CountedRead.remaining c.args.columns (g.J.CountedRead.remaining c.args.jobs.now) (asked_of c.args.settings.now) c.none.result c.run_with-in-None.result
     (λ (input : Input). Reported input (g.W.CountedWrite.contents c.args.writer.now) (g.W.CountedWrite.contents c.run_with-in-None.new.writer))
     (no_table g.C.CountedRead.remaining c.args.columns c.none.result c.in-None.is c.none.ensures) c.run_with-in-None.ensures.report
 
 pub returns-in-None-clause-fault : goal.returns-in-None-clause-fault
 returns-in-None-clause-fault g c =
-    err_with g.C.CountedRead.remaining c.args.columns (g.J.CountedRead.remaining c.args.jobs.now) (form_of c.args.settings.now) c.none.result c.run_with-in-None.result
+    err_with g.C.CountedRead.remaining c.args.columns (g.J.CountedRead.remaining c.args.jobs.now) (asked_of c.args.settings.now) c.none.result c.run_with-in-None.result
     (λ f (input : Input). Faulted input (g.W.CountedWrite.contents c.args.writer.now) (g.W.CountedWrite.contents c.run_with-in-None.new.writer) f)
     (no_table g.C.CountedRead.remaining c.args.columns c.none.result c.in-None.is c.none.ensures) c.run_with-in-None.ensures.fault

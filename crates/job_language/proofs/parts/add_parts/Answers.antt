@@ -42,4 +42,4 @@ loop-call-preserved c =
 pub returns : goal.returns
 returns c =
     let j = begun_of c.loop-call.job in
-    c.loop-call.invariant (finished j) (none_left (scope_of c.args.scope) c.args.text.now j (words_in c.args.text.now) c.args.calls.now c.loop-call.call-index c.loop-call-test.false)
+    c.loop-call.invariant (finished (scope_of c.args.scope) j) (none_left (scope_of c.args.scope) c.args.text.now j (words_in c.args.text.now) c.args.calls.now c.loop-call.call-index c.loop-call-test.false)

@@ -1,12 +1,9 @@
 use Rattle.std.proofs.Common.{arith}
-use Rattle.batch_eval.specs.Batches.{laid_items}
-use Rattle.batch_eval.proofs.LaneLemmas.{laid_values, length_laid}
+use Rattle.batch_eval.proofs.LaneLemmas.{length_laid}
 use Rattle.job_plan.proofs.link_sink.cut_of.Goals as goal
 
 pub cut-requires : goal.cut-requires
-cut-requires c =
-    let l = c.args.lanes in
-    record { front = c.tested-front.ensures c.args.junction.stage (laid_items l.start l.places.now l.values.now) (laid_values l.start l.places.now l.values.now) }
+cut-requires c = record { front = c.tested-front.ensures c.args.junction.stage }
 
 pub returns-clause-within : goal.returns-clause-within
 returns-clause-within c =

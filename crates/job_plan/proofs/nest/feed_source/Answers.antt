@@ -1,5 +1,5 @@
 use Rattle.std.proofs.Common.{List, [], sym, ap, ◌∙◌}
-use Rattle.trace.specs.declared.item.Item.{Item}
+use Rattle.lambda_values.specs.declared.item.Item.{Item}
 use Rattle.job_plan.specs.Passages.{line_in}
 use Rattle.job_plan.specs.Parts.{flow_of, walk_in}
 use Rattle.job_plan.proofs.PassageLemmas.{more_fed, fault_fed, enough_fed, none_fed, if_ok_map}

@@ -1,9 +1,11 @@
-use Rattle.std.proofs.Common.{refl}
+use Rattle.std.proofs.Common.{◌≡◌, ◌<◌, arith, length, refl, rules, Err}
 use Rattle.batch_eval.specs.Batches.{laid_items}
+use Rattle.batch_eval.proofs.LaneLemmas.{length_laid}
+use Rattle.trace.specs.declared.item.End.TheVariants as end
+use Rattle.trace.specs.Trace.{trace}
 use Rattle.job_plan.specs.Parts.{HasTaken}
 use Rattle.job_routes.specs.Legs.{end_in}
-use Rattle.batch_eval.proofs.LaneLemmas.{laid_values}
-use Rattle.job_plan.proofs.WalkLemmas.{enough_at_last, taken_on}
+use Rattle.job_plan.proofs.WalkLemmas.{enough_at_last, refused_at_first, taken_on}
 use Rattle.job_plan.proofs.part_sink.accept_all.Goals as goal
 
 pub returns-then-is_settled-clause-fed : goal.returns-then-is_settled-clause-fed
@@ -20,5 +22,12 @@ returns-clause-fed c = λ begun xs took. (
   refl,
 )
 
-pub push_all-requires-clause-values : goal.push_all-requires-clause-values
-push_all-requires-clause-values c = laid_values c.args.lanes.start c.args.lanes.places.now c.args.lanes.values.now
+pub returns-in_err-push_all-clause-fed : goal.returns-in_err-push_all-clause-fed
+returns-in_err-push_all-clause-fed c = λ begun xs took.
+    let l = c.args.lanes in
+    let e = end_in c.args.last.end.now in
+    let t = trace (laid_items l.start l.places.now l.values.now) end.Done in
+    let is : c.from_residual.result ≡ Err c.in_err-push_all.field-0.0 = search rules in
+    let same : c.push_all.new.self ≡ c.args.part.now = c.in_err-push_all.ensures.err in
+    let some : 0 < length t.items = omega (arith, c.in_err-push_all.ensures.refused, length_laid l.start l.places.now l.values.now) in
+    refused_at_first (HasTaken e c.args.last.number c.args.last.env.now begun) xs t c.push_all.new.self _ c.from_residual.result is some (rw same took)

@@ -9,4 +9,4 @@ pub returns : goal.returns
 returns c =
     let t = c.args.text.now in
     let past = subst (λ n. n ≤ c.loop-at.at) (c.len-at-end.ensures ∙ sym (length-words_of t.bytes t.tokens)) c.loop-at-test.false in
-    sym (c.loop-at.invariant ∙ ap (first_name (option_copied c.args.taken)) (drop_all c.loop-at.at (words_in t) past))
+    sym (c.loop-at.invariant ∙ ap (first_name c.args.cells (option_copied c.args.taken)) (drop_all c.loop-at.at (words_in t) past))

@@ -1,4 +1,4 @@
-use Rattle.std.proofs.Common.{◌≡◌, sym, ap, ◌∙◌}
+use Rattle.std.proofs.Common.{sym, ap, ◌∙◌}
 use Rattle.merge_run.proofs.NamedAnswers.{named_past, named_within}
 use Rattle.merge_run.proofs.merging.name_at.Goals as goal
 

@@ -9,10 +9,12 @@ use Rattle.report.proofs.NamedTexts.{names_text}
 use Rattle.merge_run.proofs.MergedLemmas.{length_merged}
 use Rattle.merge_run.proofs.NamedAnswers.{length_names, merged_named}
 use Rattle.merge_run.proofs.ReportLemmas.{merge_of}
+use Rattle.merge_run.specs.Merged.{AreReportsOf, IsRefusalOf}
+use Rattle.merge_run.proofs.RefusalLemmas.{refused_by}
 use Rattle.merge_run.proofs.merging.report_of.Goals as goal
 
-pub answers_of-requires : goal.answers_of-requires
-answers_of-requires c =
+pub answers_of-requires-clause-text : goal.answers_of-requires-clause-text
+answers_of-requires-clause-text c =
     subst (λ (ns : List (List ℕ)). All IsText ns) (sym (c.deref.ensures.value ∙ c.in_ok-names.ensures)) (names_text (names_of (jobs_of c.args.jobs.now)) c.requires.names)
 
 pub printed-requires-clause-text : goal.printed-requires-clause-text
@@ -37,4 +39,15 @@ returns-clause-ok c =
     let printed = c.in_ok-printed.ensures
     ∙ (ap (λ (ns : List (List ℕ)). report_in form ns c.deref-3.result.now) (c.deref-2.ensures.value ∙ sym c.deref.ensures.value) ∙ ap (λ (xs : List Answer). report_in form c.deref.result.now xs) c.deref-3.ensures.value) in
     merge_of form (jobs_of c.args.jobs.now) c.args.parts.items c.deref.result.now (parts_of c.in_ok-parts.parts.items) c.in-Ok.answers.items c.in_ok-printed.field-0.items
-    (c.deref.ensures.value ∙ c.in_ok-names.ensures) c.requires.mergeable c.in_ok-parts.ensures.read c.in-Ok.ensures.ok c.in-Ok.ensures.whole printed
+    (c.deref.ensures.value ∙ c.in_ok-names.ensures) c.requires.mergeable c.in_ok-parts.ensures.read c.in_ok-parts.ensures.possible c.in-Ok.ensures.ok c.in-Ok.ensures.whole printed
+
+pub answers_of-requires-clause-names : goal.answers_of-requires-clause-names
+answers_of-requires-clause-names c = c.deref.ensures.value ∙ c.in_ok-names.ensures
+
+pub returns-in-Err-clause-refused : goal.returns-in-Err-clause-refused
+returns-in-Err-clause-refused c =
+    let jobs = jobs_of c.args.jobs.now in
+    let parts = parts_of c.in_ok-parts.parts.items in
+    let read : AreReportsOf (names_of jobs) c.args.parts.items parts = subst (λ (ns : List (List ℕ)). AreReportsOf ns c.args.parts.items parts) (c.deref.ensures.value ∙ c.in_ok-names.ensures) c.in_ok-parts.ensures.read in
+    subst (IsRefusalOf jobs c.args.parts.items) (sym c.in_ok-fault_of-in-Err.ensures)
+    (refused_by jobs c.args.parts.items parts read c.in_ok-parts.ensures.possible c.in-Err.fault c.in-Err.ensures.refused c.in-Err.ensures.no_part c.in-Err.ensures.rows)

@@ -1,5 +1,5 @@
 use Rattle.std.proofs.Common.{◌≡◌, ◌+◌, List, Vec, Global, length, flat_map, refl, sym, ap, ◌∙◌, rules}
-use Rattle.trace.specs.declared.item.Item.{Item}
+use Rattle.lambda_values.specs.declared.item.Item.{Item}
 use Rattle.reduce_ops.specs.Operators.{value_of}
 use Rattle.prefix_scan.specs.Scans.{fold_at}
 use Rattle.prefix_scan.proofs.BlockLemmas.{pieces_counted, pieces_done, pieces_folded}

@@ -1,13 +1,19 @@
 use Rattle.std.proofs.Common.{refl}
 use Rattle.lambda_values.specs.Term.{long_of, truth_of}
-use Rattle.prefix_walks.proofs.FaultlessLemmas.{binary_values, choose_truths, choose_values, compare_truths, connect_truths, opposite_truths, reference_values, unary_values, when_some}
+use Rattle.prefix_walks.proofs.FaultlessLemmas.{binary_values, cell_values, choose_truths, choose_values, compare_truths, connect_truths, opposite_truths, reference_values, row_values, unary_values, when_some}
 use Rattle.prefix_walks.proofs.faultless.+faultless.Goals as goal
 
 pub after_long-returns-in-Parameter : goal.after_long-returns-in-Parameter
-after_long-returns-in-Parameter t c = rw c.in-Parameter.is (λ env x. (x, λ other same. refl))
+after_long-returns-in-Parameter t c = rw c.in-Parameter.is (λ env x. (x.value, λ other same. refl))
 
 pub after_long-returns-in-Reference : goal.after_long-returns-in-Reference
 after_long-returns-in-Reference t c = rw c.in-Reference.is (reference_values c.args.names _ c.if-names.true)
+
+pub after_long-returns-in-Cell : goal.after_long-returns-in-Cell
+after_long-returns-in-Cell t c = rw c.in-Cell.is (cell_values c.args.names _ c.if-names-2.true)
+
+pub after_long-returns-in-Row : goal.after_long-returns-in-Row
+after_long-returns-in-Row t c = rw c.in-Row.is (row_values c.args.names)
 
 pub after_long-returns-in_ok-checked_sub-in-Unary : goal.after_long-returns-in_ok-checked_sub-in-Unary
 after_long-returns-in_ok-checked_sub-in-Unary t c =

@@ -1,5 +1,5 @@
 use Rattle.std.proofs.Common.{◌≡◌, ◌+◌, ◌-◌, ◌<◌, length, take, drop, slice_get, List, None, sym, ap, subst, ◌∙◌, arith}
-use Rattle.trace.specs.declared.item.Item.{Item}
+use Rattle.lambda_values.specs.declared.item.Item.{Item}
 use Rattle.trace.specs.declared.item.End.TheVariants as end
 use Rattle.trace.specs.Sinks.{IsFed}
 use Rattle.trace.specs.Trace.{Trace, trace}

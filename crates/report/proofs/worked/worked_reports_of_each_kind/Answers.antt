@@ -22,3 +22,7 @@ returns-clause-on_fault c = refl
 pub returns-clause-slices : goal.returns-clause-slices
 unfolding int_wrap digits
 returns-clause-slices c = refl
+
+pub returns-clause-rows : goal.returns-clause-rows
+unfolding int_wrap digits
+returns-clause-rows c = refl

@@ -1,7 +1,7 @@
 use Rattle.std.proofs.Common.{take, get_or, pos, sym, ◌∙◌, ℤ, FitsSigned, w64, to_z, of_z, rules}
 use Rattle.std.specs.List.{flat_map}
 use Rattle.std.proofs.lemmas.Int.{to_z-of_z}
-use Rattle.trace.specs.declared.item.Item.{Item}
+use Rattle.lambda_values.specs.declared.item.Item.{Item}
 use Rattle.trace.proofs.PieceLemmas.{map_more, pushed_is}
 use Rattle.trace.proofs.chunk.values_in.Goals as goal
 

@@ -1,5 +1,5 @@
 use Rattle.std.proofs.Common.{◌+◌, ◌≤◌, List, [], ◌∷◌, length, Ok, Err, arith, rules}
-use Rattle.trace.specs.declared.item.Item.{Item}
+use Rattle.lambda_values.specs.declared.item.Item.{Item}
 use Rattle.trace.specs.Trace.{trace}
 use Rattle.trace.specs.Sinks.{IsFed}
 use Rattle.std.proofs.lemmas.Result.{err_from_is_err_and}
@@ -17,8 +17,8 @@ feed-returns-in-Err-clause-fed g t c = search (rules, pipe_ended)
 pub feed-returns-in-Ok-false-clause-fed : goal.feed-returns-in-Ok-false-clause-fed
 feed-returns-in-Ok-false-clause-fed g t c = search (rules, pipe_ended)
 
-pub feed-returns-in-Err-eval-clause-fed : goal.feed-returns-in-Err-eval-clause-fed
-feed-returns-in-Err-eval-clause-fed g t c = search (rules, pipe_ended)
+pub feed-returns-in-Err-eval_at-clause-fed : goal.feed-returns-in-Err-eval_at-clause-fed
+feed-returns-in-Err-eval_at-clause-fed g t c = search (rules, pipe_ended)
 
 pub feed-returns-in-Err-eval_into-clause-fed : goal.feed-returns-in-Err-eval_into-clause-fed
 feed-returns-in-Err-eval_into-clause-fed g t c = search (rules, pipe_ended)

@@ -1,6 +1,6 @@
 use Rattle.std.proofs.Common.{◌≡◌, ◌+◌, ◌*◌, List, length, take, Ok}
 use Rattle.lambda_values.specs.Streams.{run_or_listed}
-use Rattle.trace.specs.declared.item.Item.{Item}
+use Rattle.lambda_values.specs.declared.item.Item.{Item}
 use Rattle.trace.specs.declared.item.End.TheVariants as end
 use Rattle.trace.specs.declared.sink.Flow.TheVariants as flow
 use Rattle.trace.specs.declared.feeding.Fed.TheVariants as fed

@@ -3,6 +3,8 @@ use Rattle.std.proofs.lemmas.List.{places, with_items_is}
 use Rattle.lambda_values.specs.Term.{long_of, truth_of}
 use Rattle.lambda_values.specs.Value.{long_value, truth_value}
 use Rattle.batch_eval.specs.Lanes.{Reaches, at, flagged}
+use Rattle.batch_eval.specs.Batches.{item_at}
+use Rattle.batch_eval.proofs.RowLemmas.{reaches_lanes}
 use Rattle.batch_eval.proofs.SetItemLemmas.{filter_all, map_all}
 use Rattle.batch_eval.proofs.batch.Batch.+sift.Goals as goal
 
@@ -14,7 +16,7 @@ returns-else-eval_long-self-clause-walk t c =
     let env = c.args.line.env.now in
     let out = c.eval_long.new.out in
     let r = c.eval_long.result in
-    let reaches = subst (λ (xs : List ℤ). Reaches (λ k. long_value image (at xs k) env) (at out) b.live r) c.deref.ensures.value c.eval_long.ensures in
+    let reaches = reaches_lanes b.start b.origins.items c.deref-2.result.now b.values.items c.deref.result.now c.of.result c.of.ensures.place c.deref-2.ensures.value c.deref.ensures.value (λ x. long_value image x env) (at out) b.live r c.eval_long.ensures in
     let all : b.live ≤ r.live = omega (arith, c.if-eval_long-self.false) in
     let step = map_all b.live b.start b.origins.items b.values.items c.args.flags.now b.end c.args.self.now env c.args.line.first r image out reaches all c.self.view_is in
     let images = ap (λ v. v.items) c.swap.ensures.x_after ∙ with_items_is b.spare out (search (rules, places)) in
@@ -31,8 +33,8 @@ returns-else-eval_bool-self-clause-walk t c =
     let r = c.eval_bool.result in
     let passes = c.deref-in-Some-Filter-default.result.now in
     let passes_are : passes ≡ out = c.deref-in-Some-Filter-default.ensures.value ∙ with_items_is b.spare out (search (rules, places)) in
-    let here = subst (λ (xs : List ℤ). Reaches (λ k. flagged (truth_value test (at xs k) env)) (at out) b.live r) c.deref.ensures.value c.eval_bool.ensures in
-    let reaches = subst (λ (zs : List ℤ). Reaches (λ k. flagged (truth_value test (at b.values.items k) env)) (at zs) b.live r) (sym passes_are) here in
+    let here = reaches_lanes b.start b.origins.items c.deref-2.result.now b.values.items c.deref.result.now c.of.result c.of.ensures.place c.deref-2.ensures.value c.deref.ensures.value (λ x. flagged (truth_value test x env)) (at out) b.live r c.eval_bool.ensures in
+    let reaches = subst (λ (zs : List ℤ). Reaches (λ k. flagged (truth_value test (item_at b.start b.origins.items b.values.items k) env)) (at zs) b.live r) (sym passes_are) here in
     let all : b.live ≤ r.live = omega (arith, c.if-eval_bool-self.false) in
     let step = filter_all b.live b.start b.origins.items b.values.items c.args.flags.now b.end c.args.self.now env c.args.line.first r test passes c.select.new.out reaches all c.select.ensures c.self.view_is in
     let on = rw (step, split.first, split.env, add-one) at c.sift-in-Some-Filter-default.ensures.walk in

@@ -1,7 +1,7 @@
 use Rattle.std.proofs.Common.{◌≡◌, ℕ, ◌<◌, ℤ, List, length, get_or, pos, sym, ap, ◌∙◌, rules}
 use Rattle.std.proofs.lemmas.List.{get_or-take, places, with_items_is}
 use Rattle.std.specs.Vec.{with_items}
-use Rattle.trace.specs.declared.item.Item.{Item}
+use Rattle.lambda_values.specs.declared.item.Item.{Item}
 use Rattle.trace.specs.declared.item.End.TheVariants as end
 use Rattle.trace.specs.Trace.{trace}
 use Rattle.batch_eval.specs.Lanes.{at}

@@ -1,5 +1,5 @@
 use Rattle.std.proofs.Common.{◌≤◌, length, map, take, sym, ap, ◌∙◌, arith}
-use Rattle.trace.specs.declared.item.Item.{Item}
+use Rattle.lambda_values.specs.declared.item.Item.{Item}
 use Rattle.trace.specs.Trace.{Trace}
 use Rattle.batch_eval.proofs.Items.{lane_values}
 use Rattle.batch_eval.proofs.batch.Batch.values.Goals as goal

@@ -1,5 +1,5 @@
 use Rattle.std.proofs.Common.{sym, ap, ◌∙◌, Vec, Global}
-use Rattle.trace.specs.declared.item.Item.{Item}
+use Rattle.lambda_values.specs.declared.item.Item.{Item}
 use Rattle.find_ops.specs.Finds.{find_of, first_decision}
 use Rattle.find_ops.proofs.DecisionLemmas.{piece_decides, piece_passed}
 use Rattle.find_ops.proofs.terminal.FindTerminal.first_decision_in.Goals as goal

@@ -1,5 +1,5 @@
 use Rattle.std.proofs.Common.{List, true≢false, sym, ◌∙◌}
-use Rattle.trace.specs.declared.item.Item.{Item}
+use Rattle.lambda_values.specs.declared.item.Item.{Item}
 use Rattle.job_plan.specs.declared.looking.Looking.{Looking}
 use Rattle.job_plan.specs.Stretches.{HasLooked}
 use Rattle.job_plan.proofs.LookLemmas.{inner_flow, inner_wants, not_left, still_taken, unless_left}

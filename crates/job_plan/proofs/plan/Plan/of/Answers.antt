@@ -51,6 +51,9 @@ routes c =
     subst (λ (ps : List AbstractPlan). AreRoutes [] ps (jobs_of c.args.jobs.items)) (append-nil (plans_in js))
     (c.loop-job.invariant.2 [] (subst (λ (ks : List Job). AreRoutes (plan_names js) [] (jobs_of ks)) (sym none) tt))
 
+pub returns-clause-routes : goal.returns-clause-routes
+returns-clause-routes c = routes (goal.at.returns-clause-routes c).After-lent_arrays
+
 pub returns-clause-meaning : goal.returns-clause-meaning
 returns-clause-meaning c = planned (plans_in c.loop-job.plans.items) (jobs_of c.args.jobs.items) (routes (goal.at.returns-clause-meaning c).After-lent_arrays)
 

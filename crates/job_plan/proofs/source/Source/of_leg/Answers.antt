@@ -1,5 +1,5 @@
 use Rattle.std.proofs.Common.{List, sym, ap}
-use Rattle.trace.specs.declared.item.Item.{Item}
+use Rattle.lambda_values.specs.declared.item.Item.{Item}
 use Rattle.trace.specs.Trace.{trace}
 use Rattle.job_plan.specs.Bases.{base_walk}
 use Rattle.job_plan.proofs.source.Source.of_leg.Goals as goal

@@ -17,5 +17,5 @@ pub returns : goal.returns
 returns c =
     let l = c.self.inside in
     let lt = subst (λ n. c.args.place < n) c.len.ensures c.if-place-len.false in
-    c.lexeme_of.ensures ∙ ap (lexeme_of (option_copied l.first) (option_copied l.second) (l.from + c.args.place)) c.word_at.ensures.word
+    c.lexeme_of.ensures ∙ ap (lexeme_of l.cells (option_copied l.first) (option_copied l.second) (l.from + c.args.place)) c.word_at.ensures.word
     ∙ get_or-part l c.args.self.now c.args.place Other c.self.invariant c.self.view_is lt

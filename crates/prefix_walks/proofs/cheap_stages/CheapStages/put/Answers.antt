@@ -1,6 +1,6 @@
 use Rattle.std.proofs.Common.{◌≡◌, ◌≤◌, List, [], length, subst, arith}
-use Rattle.lambda_values.specs.Earlier.{Numbers}
-use Rattle.trace.specs.declared.item.Item.{Item}
+use Rattle.lambda_values.specs.Earlier.{Numbers, nothing_named}
+use Rattle.lambda_values.specs.declared.item.Item.{Item}
 use Rattle.trace.specs.declared.item.End.TheVariants as end
 use Rattle.trace.specs.Sinks.{IsFed}
 use Rattle.trace.specs.Stages.{stages_of}
@@ -13,7 +13,7 @@ use Rattle.prefix_walks.proofs.cheap_stages.CheapStages.put.Goals as goal
 pub returns : goal.returns
 returns c =
     let none : List Item = [] in
-    let numbers : Numbers = [] in
+    let numbers : Numbers = nothing_named in
     let gs = stages_of c.args.self.now.stages.now in
     let xs = batch_items c.args.lent.now in
     let taken = λ (b : List Item) (ys : List Item). length ys ≤ 1024 → b ≡ ys in

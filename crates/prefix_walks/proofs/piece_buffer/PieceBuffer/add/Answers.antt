@@ -1,5 +1,5 @@
 use Rattle.std.proofs.Common.{◌≡◌, ◌++◌, ◌∷◌, [], List, ℤ, length, sym, ap, ◌∙◌, arith, rules, w64, to_z, of_z}
-use Rattle.trace.specs.declared.item.Item.{Item}
+use Rattle.lambda_values.specs.declared.item.Item.{Item}
 use Rattle.prefix_walks.proofs.PlacingLemmas.{length_front, one_added}
 use Rattle.prefix_walks.proofs.piece_buffer.PieceBuffer.add.Goals as goal
 

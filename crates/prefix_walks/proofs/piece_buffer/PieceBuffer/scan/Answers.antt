@@ -1,6 +1,6 @@
 use Rattle.std.proofs.Common.{◌≡◌, length, map, take, drop, sym, ap, ◌∙◌}
 use Rattle.std.proofs.lemmas.List.{length-map, take_at}
-use Rattle.trace.specs.declared.item.Item.{Item}
+use Rattle.lambda_values.specs.declared.item.Item.{Item}
 use Rattle.reduce_ops.specs.Operators.{value_of}
 use Rattle.prefix_scan.specs.Scans.{fold_at, scan_at}
 use Rattle.prefix_scan.proofs.ScanLemmas.{length-scan_at}

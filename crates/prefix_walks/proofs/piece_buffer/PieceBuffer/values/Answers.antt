@@ -1,5 +1,5 @@
 use Rattle.std.proofs.Common.{map, take, sym, ap, ◌∙◌}
-use Rattle.trace.specs.declared.item.Item.{Item}
+use Rattle.lambda_values.specs.declared.item.Item.{Item}
 use Rattle.prefix_walks.proofs.PlacingLemmas.{front_paired, values_at}
 use Rattle.prefix_walks.proofs.piece_buffer.PieceBuffer.values.Goals as goal
 

@@ -1,5 +1,5 @@
 use Rattle.std.proofs.Common.{◌≡◌, ◌+◌, ◌++◌, List, Some, length, true, ap, ◌∙◌, rules}
-use Rattle.trace.specs.declared.item.Item.{Item}
+use Rattle.lambda_values.specs.declared.item.Item.{Item}
 use Rattle.prefix_walks.specs.Placing.{items_at}
 use Rattle.prefix_walks.proofs.PlacingLemmas.{both_own}
 use Rattle.prefix_walks.proofs.stored.Stored.add.Goals as goal

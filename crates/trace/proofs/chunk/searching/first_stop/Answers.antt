@@ -1,5 +1,5 @@
 use Rattle.std.proofs.Common.{◌+◌, length, take, flat_map, sym, ap, ◌∙◌, Vec, Global}
-use Rattle.trace.specs.declared.item.Item.{Item}
+use Rattle.lambda_values.specs.declared.item.Item.{Item}
 use Rattle.trace.specs.Stops.{stop_at}
 use Rattle.trace.proofs.StopLemmas.{pieces_stop, pieces_pass, stop_within, cut_here}
 use Rattle.trace.proofs.chunk.searching.first_stop.Goals as goal

@@ -1,5 +1,5 @@
 use Rattle.std.proofs.Common.{Vec, Global}
-use Rattle.trace.specs.declared.item.Item.{Item}
+use Rattle.lambda_values.specs.declared.item.Item.{Item}
 use Rattle.trace.proofs.StopLemmas.{StopsLater}
 use Rattle.trace.proofs.chunk.searching.first_stop.Given as goal
 

@@ -1,5 +1,5 @@
 use Rattle.std.proofs.Common.{◌≡◌, ◌≤◌, ◌-◌, ◌+◌, length, subst, rules, Vec, Global, ℕ}
-use Rattle.trace.specs.declared.item.Item.{Item}
+use Rattle.lambda_values.specs.declared.item.Item.{Item}
 use Rattle.trace.proofs.CutLemmas.{Passed, passed_one}
 use Rattle.trace.proofs.chunk.shortening.cut_at.Goals as goal
 

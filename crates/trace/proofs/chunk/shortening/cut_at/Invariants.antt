@@ -1,5 +1,5 @@
 use Rattle.std.proofs.Common.{Vec, Global}
-use Rattle.trace.specs.declared.item.Item.{Item}
+use Rattle.lambda_values.specs.declared.item.Item.{Item}
 use Rattle.trace.proofs.CutLemmas.{Passed}
 use Rattle.trace.proofs.chunk.shortening.cut_at.Given as goal
 

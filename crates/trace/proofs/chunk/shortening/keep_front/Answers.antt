@@ -1,7 +1,7 @@
 use Rattle.std.proofs.Common.{◌≡◌, ◌≢◌, ◌<◌, ◌≤◌, ◌+◌, [], List, All, length, get_or, set, flat_map, ap, sym, ◌∙◌, arith, Vec, Global, subst}
 use Rattle.std.proofs.lemmas.List.{get_or-take, length-take-le}
 use Rattle.std.proofs.lemmas.List.Elements.{All-take, All-set}
-use Rattle.trace.specs.declared.item.Item.{Item}
+use Rattle.lambda_values.specs.declared.item.Item.{Item}
 use Rattle.trace.proofs.CutLemmas.{next_exists, first_of, kept_front}
 use Rattle.trace.proofs.chunk.shortening.keep_front.Goals as goal
 

@@ -1,6 +1,6 @@
 use Rattle.std.proofs.Common.{◌+◌, ◌<◌, ◌≤◌, ◌^◌, sym, ◌∙◌, ap, subst, FitsSigned, w64, ℤ, Some, arith}
 use Rattle.trace.specs.Cover.{counted}
-use Rattle.trace.specs.declared.item.Item.{Item}
+use Rattle.lambda_values.specs.declared.item.Item.{Item}
 use Rattle.trace.proofs.Ranges.{small, sum_is, sum_fits, counted_get}
 use Rattle.trace.proofs.Sources.{length-counted, length-placed}
 use Rattle.trace.proofs.source.RangeItemsSourceItems.item_at.Goals as goal

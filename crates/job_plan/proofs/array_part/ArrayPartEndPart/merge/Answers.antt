@@ -1,6 +1,0 @@
-use Rattle.job_plan.proofs.PartLemmas.{arrays_merge}
-use Rattle.job_plan.proofs.array_part.ArrayPartEndPart.merge.Goals as goal
-
-pub returns-in-Ok-clause-ok : goal.returns-in-Ok-clause-ok
-returns-in-Ok-clause-ok c e n env a b =
-    arrays_merge e n env a b c.args.self c.args.right c.append.new.self c.in-Ok.ensures.ok
