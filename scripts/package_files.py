@@ -6,6 +6,7 @@ import pathlib
 import re
 import shutil
 import subprocess
+import sys
 import tempfile
 
 from page_commands import commands_of
@@ -26,10 +27,10 @@ exec "$lib/$("$lib/processor")/{}" "$@"
 """
 ABOUT = """ A job is a pipeline as in Java's LongStream: a source, maps, filters, folds.
  The report has one line per job: its answer, or its first fault. It is byte for
- byte what a single thread would write, on any number of threads. The sources
- are written in Rattle; every function is proved to meet its contract.
+ byte what a single thread would write, on any number of threads.
 """
-UNPROVED = 'This program was NOT proved where it was built.'
+PROVED = ' The sources are written in Rattle; every function is proved to meet its contract.\n'
+UNPROVED = 'This program is NOT proved.'
 COPYRIGHT = """Format: https://www.debian.org/doc/packaging-manuals/copyright-format/1.0/
 Upstream-Name: streamrun
 
@@ -122,6 +123,25 @@ def shell_files(top, share):
     subprocess.run([os.path.join(top, 'scripts', 'shell_files'), '--install', share], check=True)
 
 
+def uses_wide_registers(path):
+    """Whether a program has instructions that x86-64-v2 lacks: those over registers of 256 bits."""
+    listing = subprocess.run(['objdump', '-d', '--no-show-raw-insn', path], stdout=subprocess.PIPE, check=True).stdout
+    return b'%ymm' in listing
+
+
+def wheel_name(build):
+    """The name of the wheel of the package of Python."""
+    return f'streamrun-{build.version}-py3-none-any.whl'
+
+
+def make_wheel(build, folder):
+    """Writes the wheel into a folder, and gives its name."""
+    subprocess.run([sys.executable, '-B', '-c', f'import wheels; wheels.build_wheel({folder!r})'], cwd=os.path.join(build.top, 'python'),
+                   env={**os.environ, 'SOURCE_DATE_EPOCH': str(build.epoch)}, check=True)
+    os.chmod(os.path.join(folder, wheel_name(build)), 0o644)
+    return wheel_name(build)
+
+
 def programs(build, library):
     """The programs without their tables of symbols, and what says which one a machine runs."""
     copy(os.path.join(build.top, 'scripts', 'processor'), os.path.join(library, 'processor'), True)
@@ -142,6 +162,7 @@ def tarball_tree(build, folder):
     copy_all(build.top, (*TOOLS, 'python'), folder)
     for tool in ('explain', 'scatter'):
         os.symlink(f'../tools/{tool}', os.path.join(folder, 'bin', f'streamrun-{tool}'))
+    make_wheel(build, folder)
     write(os.path.join(folder, 'PROVED'), build.proved(os.path.join(folder, 'lib')))
     write(os.path.join(folder, 'SHA256SUMS'), checksums(folder))
 

@@ -7,6 +7,8 @@ standard error among them. Commands of one page share the folder, so a later one
 Answers in the text are run too, all answers of a page as one file of version 3 over examples/accounts.csv: `JOB` is `ANSWER`, or is a
 number, and `NAME = JOB` gives `NAME = ANSWER`. The recipes are run over random tables too (page_recipes.py).
 
+A page whose commands leave files has to begin with one that goes into a folder of its own.
+
 A command that names a tool of TOOLS that isn't installed, a script that runs Java, or a program of Python that imports what
 isn't installed, is skipped, and counted, and so is each later one that wants a file which it would have written. python3 is one
 that has pandas, if there is one.
@@ -137,7 +139,7 @@ def folder_for(top, work, program):
         file.write(f'#!/bin/sh\nexec {page_python()} -B "$@"\n')
     os.chmod(python, 0o755)
     return folder, {**os.environ, 'PATH': programs + os.pathsep + os.environ['PATH'], 'PYTHONPATH': os.path.join(top, 'python'),
-                    'LC_ALL': 'C.UTF-8'}
+                    'LC_ALL': 'C.UTF-8', 'TMPDIR': work}
 
 
 def ran(command, folder, environment):
@@ -167,6 +169,12 @@ def wrong_with(command, printed, folder, environment):
     return f'status {run.returncode}' if run.returncode else None
 
 
+def has_own_folder(text):
+    """Whether the first command of a page goes into a new folder."""
+    first = next((command for _, command, _ in commands_of(text)), '')
+    return 'cd "$(mktemp -d)"' in first
+
+
 def run_pages(top, pages, program):
     """Runs the commands of the pages, prints a line for each fault, and answers how many passed and failed."""
     passed = failed = 0
@@ -190,6 +198,10 @@ def run_pages(top, pages, program):
                 failed += bool(wrong)
                 if wrong:
                     print(f'commands: {os.path.relpath(page, top)}:{number}: {command.splitlines()[0]}: {wrong}')
+            left = [entry.name for entry in os.scandir(folder) if not entry.is_symlink()]
+            if left and not has_own_folder(text):
+                failed += 1
+                print(f'commands: {os.path.relpath(page, top)}: leaves {", ".join(sorted(left)[:3])}, and begins in no folder of its own')
     for tool, count in sorted(skipped.items()):
         print(f'commands: {count} skipped, since {tool} is not installed')
     return passed, failed

@@ -5,7 +5,7 @@ import os
 import re
 import subprocess
 
-from page_commands import commands_of
+from page_commands import TOOLS, commands_of
 from page_text import TICKED, contracts_of, pages_of, without_blocks
 from repository import crates_of, read, sources_of
 
@@ -208,3 +208,14 @@ def editors(top):
     for line in lines_of_script(top, 'tests/editors'):
         if not line.startswith('editors: '):
             yield line
+
+
+def needs(top):
+    """A tool that commands of a page need, and that stands neither in its first paragraphs nor in every system."""
+    for page in pages_of(top):
+        text = read(page)
+        head = text[:text.find('```console')]
+        named = {tool for _, command, _ in commands_of(text) for tool in re.findall(r'\b(%s)\b' % '|'.join(TOOLS), command)}
+        missing = sorted(tool for tool in named - {'bash', 'man'} if not re.search(rf'`[^`]*\b{tool}\b[^`]*`', head))
+        if missing:
+            yield f'{os.path.relpath(page, top)}: its commands need {", ".join(missing)}, and its head does not say so'

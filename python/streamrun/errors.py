@@ -10,6 +10,14 @@ class TableError(ValueError):
         self.columns = columns
 
 
+class JobFailed(Exception):
+    """Jobs of a report that have a fault or couldn't be run: `lines` are theirs, as in the report."""
+
+    def __init__(self, lines: tuple[str, ...]) -> None:
+        super().__init__('\n'.join(lines))
+        self.lines = lines
+
+
 class StreamrunError(Exception):
     """A run that failed. `line` is what the program wrote to standard error, `status` its exit status, which is negative
     if a signal ended it."""
@@ -49,7 +57,14 @@ class OutOfMemory(StreamrunError, MemoryError):
 
 
 class FileFailed(StreamrunError):
-    """A file can't be opened or read, or the report can't be written: status 4."""
+    """A file can't be opened or read, or the report can't be written: status 4. `reason` says which file it is."""
+
+    def __init__(self, line: str, status: int, reason: str | None = None) -> None:
+        super().__init__(line, status)
+        self.reason = reason
+
+    def __str__(self) -> str:
+        return f'{self.line}\n{self.reason}' if self.reason else self.line
 
 
 class ProgramNotFound(StreamrunError):
@@ -57,9 +72,11 @@ class ProgramNotFound(StreamrunError):
 
 
 def error_of(line: str, status: int, explanation: str | None) -> StreamrunError:
-    """The error for what the program wrote, and its status."""
+    """The error for what the program wrote, and its status; explanation: what is known besides."""
     if status == 1:
         kind = ColumnsRefused if line.startswith('streamrun: columns: ') else JobsRefused
         return kind(line, status, explanation)
-    kinds = {2: CommandLineRefused, 3: OutOfMemory, 4: FileFailed}
+    if status == 4:
+        return FileFailed(line, status, explanation)
+    kinds = {2: CommandLineRefused, 3: OutOfMemory}
     return kinds.get(status, StreamrunError)(line or f'streamrun: ended with status {status}', status)

@@ -9,7 +9,7 @@ from typing import Any
 
 from .errors import ProgramNotFound, StreamrunError, error_of
 from .report import Report
-from .tables import csv_of
+from .tables import csv_of, header_of, named_in
 
 STANDARD_INPUT = '/dev/stdin'
 
@@ -24,10 +24,14 @@ def run(jobs: str | os.PathLike[str], columns: Any = None, *, workers: int | Non
     language  the newest version of job files that is read: 2, if not given, or 3
     program   the program, if it isn't the `streamrun` on PATH
 
-    A run that fails is a StreamrunError with the program's line; a table that isn't of integers is a TableError.
+    The columns that the jobs name are sent alone. A run that fails is a StreamrunError with the program's line; a table whose
+    named columns aren't of integers is a TableError.
     """
+    if not isinstance(jobs, (str, os.PathLike)):
+        raise TypeError(f'jobs are a text or a path, and not {type(jobs).__name__}')
     text = None if is_path(jobs) else os.fspath(jobs)
-    table = None if columns is None or isinstance(columns, (str, os.PathLike)) else csv_of(columns)
+    is_file = isinstance(columns, (str, os.PathLike))
+    table = None if columns is None or is_file else csv_of(columns, named_by(jobs, text)) or None
     with tempfile.TemporaryDirectory(prefix='streamrun-') as folder:
         path = os.fspath(jobs)
         if text is not None:
@@ -35,7 +39,7 @@ def run(jobs: str | os.PathLike[str], columns: Any = None, *, workers: int | Non
             with open(path, 'w', encoding='utf-8', newline='') as file:
                 file.write(text)
         words = [os.fspath(program or 'streamrun'), '--json']
-        if columns is not None:
+        if table is not None or is_file:
             words.append(f'--columns={STANDARD_INPUT if table is not None else os.fspath(columns)}')
         if workers is not None:
             words.append(f'--workers={workers}')
@@ -44,7 +48,13 @@ def run(jobs: str | os.PathLike[str], columns: Any = None, *, workers: int | Non
         ended = started([*words, '--', path], table)
         if ended.returncode == 0:
             return Report(ended.stdout)
-        raise failure_of(ended, path, table, columns, language)
+        raise failure_of(ended, path, columns, language)
+
+
+def named_by(jobs: str | os.PathLike[str], text: str | None) -> set[str]:
+    """The names of columns in the jobs; the program says what is wrong with a file that can't be read."""
+    data = text if text is not None else (bytes_of(os.fspath(jobs)) or b'').decode(errors='replace')
+    return named_in(data)
 
 
 def is_path(jobs: str | os.PathLike[str]) -> bool:
@@ -61,16 +71,26 @@ def started(words: list[str], table: bytes | None) -> subprocess.CompletedProces
         raise ProgramNotFound(f'no program {words[0]!r}: give its path as program, or put it on PATH', 127) from missing
 
 
-def failure_of(ended: subprocess.CompletedProcess[bytes], path: str, table: bytes | None, columns: Any, language: int | None) -> StreamrunError:
-    """The error of a run that failed, with what is known of the place in a refused file."""
+def failure_of(ended: subprocess.CompletedProcess[bytes], path: str, columns: Any, language: int | None) -> StreamrunError:
+    """The error of a run that failed, with what is known of the place in a refused file, or of a file that isn't there."""
     line = ended.stderr.decode(errors='replace').rstrip('\n')
-    explanation = None
     if ended.returncode == 1:
-        cells = table
-        if cells is None and columns is not None:
-            cells = bytes_of(os.fspath(columns))
-        explanation = explanation_of(bytes_of(path), cells, language)
-    return error_of(line, ended.returncode, explanation)
+        is_file = isinstance(columns, (str, os.PathLike))
+        cells = bytes_of(os.fspath(columns)) if is_file else None if columns is None else header_of(columns)
+        return error_of(line, 1, explanation_of(bytes_of(path), cells, language))
+    return error_of(line, ended.returncode, reason_of(path, columns) if ended.returncode == 4 else None)
+
+
+def reason_of(path: str, columns: Any) -> str | None:
+    """Which file can't be read, and why."""
+    for given, what in ((columns, 'columns='), (path, 'jobs')):
+        try:
+            if isinstance(given, (str, os.PathLike)):
+                open(given, 'rb').close()
+        except OSError as error:
+            both = f'; a text of jobs has a =, such as total = {path}' if what == 'jobs' and '(' in path else ''
+            return f'{what} is taken for a path: {os.fspath(given)!r}, {error.strerror}{both}'
+    return None
 
 
 def bytes_of(path: str) -> bytes | None:
@@ -90,4 +110,4 @@ def explanation_of(text: bytes | None, columns: bytes | None, language: int | No
     except ImportError:
         return None
     found = explain.explain_jobs(text, columns, newest=language or 2)
-    return None if found is None else str(found)
+    return None if found is None else str(found).replace('--columns FILE', 'columns=').replace('--language 3', 'language=3')

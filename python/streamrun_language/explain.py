@@ -12,27 +12,35 @@ import unicodedata
 from dataclasses import dataclass
 from typing import Any, Dict, List, Optional, Tuple
 
-from .job_hints import ENDS, PARTS, STRUCTURE
+from .begin_hints import STRUCTURE
+from .calculations import CALCULATIONS
+from .choice_hints import CHOICE_RULES
+from .following import added_lines, followed, language_after
+from .job_hints import ENDS, PARTS
 from .jobs import Job, read_each
 from .lambda_hints import EXPRESSIONS, HEADS, STREAM_RULES
 from .lines import BLANKS, NEWEST, Lines, lines_of, read_lines
-from .meaning_hints import LISTED, NAMES, OTHERS, TYPES
+from .meaning_hints import LISTED, NAMES, OTHERS
 from .refusals import Cause, RefusedFile, RefusedTable
-from .row_hints import NO_ROW, OF_JOBS, OF_LAMBDAS, OF_OPERATORS
+from .row_hints import NO_ROW, ROWS_OF_JOBS, ROWS_OF_LAMBDAS, ROWS_OF_OPERATORS
 from .site import Rule, Site
-from .table_hints import TableSite, on_one_line, table_hint
+from .table_hints import TableSite, table_hint
+from .table_view import on_one_line
 from .tables import place_of, read_columns
-from .word_hints import BYTES, NUMBERS, WORD_RULES
+from .number_hints import NUMBERS, OF_JOBS, OF_LAMBDAS
+from .type_hints import TYPES
+from .word_hints import BYTES, WORD_RULES
 
 # The rules of each cause, the first that applies giving the hint.
 RULES = {
-    Cause.SYNTAX: [*OF_JOBS, *BYTES, *NUMBERS, *STRUCTURE, *PARTS, *ENDS],
-    Cause.EXPRESSION_SYNTAX: [*OF_LAMBDAS, *NUMBERS, *WORD_RULES, *HEADS, *STREAM_RULES, *EXPRESSIONS],
-    Cause.UNKNOWN_NAME: NAMES, Cause.WRONG_TYPE: TYPES, Cause.OPERATOR_NOT_LISTED: [*OF_OPERATORS, *LISTED], Cause.NO_ROW: NO_ROW,
+    Cause.SYNTAX: [*ROWS_OF_JOBS, *OF_JOBS, *NUMBERS, *CALCULATIONS, *BYTES, *STRUCTURE, *PARTS, *ENDS],
+    Cause.EXPRESSION_SYNTAX: [*ROWS_OF_LAMBDAS, *OF_LAMBDAS, *NUMBERS, *CHOICE_RULES, *WORD_RULES, *HEADS, *STREAM_RULES, *EXPRESSIONS],
+    Cause.UNKNOWN_NAME: NAMES, Cause.WRONG_TYPE: TYPES, Cause.OPERATOR_NOT_LISTED: [*ROWS_OF_OPERATORS, *LISTED], Cause.NO_ROW: NO_ROW,
     **OTHERS,
 }
 # Where no rule of a cause applies.
-ANY = Rule('what is wanted', lambda site: True, lambda site: f'Here {site.wanted.value} is wanted.')
+ANY = Rule('what is wanted', lambda site: True, lambda site: f'Here {site.wanted.value} is wanted.' if site.wanted else
+           f'What the line means, {site.refused.cause.value}, says docs/faults-and-messages.md.')
 MARGIN, MOST_SHOWN, BEFORE = '    ', 92, 60
 
 
@@ -48,7 +56,8 @@ class Cell:
 @dataclass
 class Explanation:
     """A refusal. cause: the program's line, without `streamrun: `; line, column: the place in the file, from 1, the column
-    in bytes; text: the line of the file."""
+    in bytes; text: the line of the file; followed: the file with the text of the hint put in, if it proposes one, and language:
+    the newest version that is read in it."""
 
     file: str
     line: int
@@ -57,6 +66,8 @@ class Explanation:
     hint: str
     text: bytes
     cell: Optional[Cell] = None
+    followed: Optional[bytes] = None
+    language: int = NEWEST
 
     def json(self) -> str:
         """The explanation as an object on one line."""
@@ -101,9 +112,22 @@ def line_below(data: bytes, number: int) -> bytes:
     return next((line for line in lines if line and not line.startswith((b'#', b'//'))), b'')
 
 
-def rule_of(site: Site) -> Rule:
-    """The first rule that applies."""
-    return next((rule for rule in RULES[site.refused.cause] if rule.applies(site)), ANY)
+def goes_on(data: bytes, site: Site, hint: str, newest: int) -> bool:
+    """Whether a hint that proposes a text is right as far as can be seen: with the text the job is accepted, or refused further
+    on."""
+    made = followed(data, site.job, site.refused.at, hint)
+    if made is None:
+        return True
+    try:
+        list(read_each(made, site.columns or {}, language_after(hint, newest)))
+        return True
+    except RefusedFile as refused:
+        return (refused.job.line, refused.refused.at) > (site.job.line + added_lines(data, hint), site.refused.at)
+
+
+def rule_of(data: bytes, site: Site, newest: int) -> Rule:
+    """The first rule that applies and whose text goes on."""
+    return next((rule for rule in RULES[site.refused.cause] if rule.applies(site) and goes_on(data, site, rule.hint(site), newest)), ANY)
 
 
 def explain_job_file(data: bytes, columns: Optional[Dict[str, Any]], file: str, newest: int) -> Optional[Explanation]:
@@ -122,9 +146,11 @@ def explain_job(data: bytes, refused: RefusedFile, earlier: Dict[str, Job], colu
     """Why a job is refused, after those above it."""
     job, cause = refused.job, refused.refused
     line, column = job.position(cause.at)
-    names = None if columns is None else list(columns)
-    site = Site(job, cause, lines_or_none(data, newest), earlier, names, line_below(data, job.starts[-1][1]))
-    return Explanation(file, line, column, str(refused), rule_of(site).hint(site), lines_of(data)[line - 1])
+    site = Site(job, cause, lines_or_none(data, newest), earlier, columns, line_below(data, job.starts[-1][1]))
+    hint = rule_of(data, site, newest).hint(site)
+    made = followed(data, job, cause.at, hint)
+    return Explanation(file, line, column, str(refused), hint, lines_of(data)[line - 1], followed=made,
+                       language=language_after(hint, newest))
 
 
 def lines_or_none(data: bytes, newest: int) -> Lines:
@@ -145,6 +171,11 @@ def explain_table(data: bytes, file: str) -> Tuple[Optional[Dict[str, List[int]]
         cell = Cell(refused.row, site.name, site.cell) if refused.row and refused.column else None
         text = place.text.encode('latin-1')
         return None, Explanation(file, place.line, place.column, str(refused), table_hint(site), text, cell)
+
+
+def table_refused(data: bytes) -> bool:
+    """Whether a table is refused."""
+    return explain_table(data, '')[1] is not None
 
 
 def explain_jobs(jobs: bytes, columns: Optional[bytes] = None, jobs_file: str = 'JOBS', columns_file: str = 'FILE',

@@ -1,9 +1,15 @@
 """Hints on texts that aren't in the grammar of lambdas."""
 from __future__ import annotations
 
+import re
+from typing import Tuple
+
 from . import java_words
+from .choice_hints import bare_lambda
 from .lambdas import RESERVED, STREAMS
+from .operands import TERMS, call_at, closing, instead, operand_end, start_of, text, without
 from .refusals import Wanted
+from .row_hints import OTHER_CELL
 from .site import Rule, Site
 from .syntax import OPERATIONS
 from .tokens import SYMBOLS, Kind
@@ -39,9 +45,13 @@ def method_hint(site: Site) -> str:
     value, name = value_before(site), site.word(1)
     if value in ('Integer', 'Double', 'Short', 'Byte', 'Float', 'BigInteger'):
         known = java_words.CONSTANTS.get(f'{value}.{name}')
-        return f'There is no {value}: write {known}.' if known else f'There is no {value}: the classes are Math and Long.'
-    method = method_of(name)
-    return f'A value has no methods: write {method}({value}).' if method else 'A value has no methods: write Math.abs(x).'
+        return (f'There is no {value}: {instead(known, f"{value}.{name}")}.' if known else
+                f'There is no {value}: the classes are Math and Long.')
+    method, end = method_of(name), closing(site, site.index + 2) if site.word(2) == '(' else site.index + 1
+    if method not in CALLS:
+        return 'A value has no methods: those of Math and Long are called as Math.abs(x).'
+    operands = ', '.join([value, *(call_at(site, site.index + 2)[1] if site.word(2) == '(' else [])])
+    return f'A value has no methods: {instead(f"{method}({operands})", text(site, site.index - 1, end))}.'
 
 
 def call_hint(site: Site) -> str:
@@ -54,22 +64,20 @@ def call_hint(site: Site) -> str:
     if name in OPERATIONS and not method_of(name):
         return f'No operation stands in a lambda: write .{name}(..) as a stage or a terminal of the job.'
     method = method_of(name)
-    known = f'write {method}(..)' if method in CALLS else 'methods are those of Math and Long, such as Math.abs(x)'
+    known = instead(method, name) if method in CALLS else 'methods are those of Math and Long, such as Math.abs(x)'
     return f'A method has its class: {known}.'
 
 
 def head_hint(site: Site) -> str:
     """What to write for a lambda that doesn't begin with a parameter and an arrow."""
-    words = [token.text for token in site.tokens[site.index - 1:site.index + 3]]
-    if '::' in words:
-        return f'Methods stand by their names in reduce and prefix: write x -> {site.argument().replace("::", ".")}(x).'
-    if site.word() in ('=', ':') and site.word(1) in ('>', '') or site.word() == '=':
-        return 'The arrow of a lambda is written ->: x -> x * 2.'
-    if site.word(-1) == 'lambda' or site.word() == ':':
-        return 'A lambda is a parameter, -> and an expression: x -> x * 2.'
+    if site.word() == '=' and site.word(1) == '>':
+        return f'The arrow of a lambda is written ->: {instead("->", "=>")}.'
     if site.kind() is Kind.STRING:
-        return 'A lambda stands without quotes: x -> x * 2.'
-    return f'A lambda begins with its parameter and ->: write x -> {site.argument()}.'
+        return f'A lambda stands without quotes: {instead(site.word()[1:-1], site.word())}.'
+    made = bare_lambda(site)
+    if made:
+        return f'A lambda is a parameter, -> and an expression: {instead(made, site.argument())}.'
+    return 'A lambda is a parameter, -> and an expression: x -> x * 2.'
 
 
 def is_head(site: Site) -> bool:
@@ -81,9 +89,9 @@ def is_head(site: Site) -> bool:
 def parameter_hint(site: Site) -> str:
     """What to write in the parentheses before an arrow."""
     if site.word(-1) in java_words.TYPES and site.kind() is Kind.NAME:
-        return f'All numbers are long: write (long {site.word()}) ->, or {site.word()} ->.'
+        return f'All numbers are long: {instead(f"long {site.word()}", f"{site.word(-1)} {site.word()}")}.'
     if site.word() == ',':
-        return f'The lambda has one parameter: write {site.word(-1)} ->.'
+        return f'A lambda has one parameter, an item of one column: {OTHER_CELL}.'
     return 'A lambda begins with a parameter: write x ->, (x) -> or (long x) ->.'
 
 
@@ -124,17 +132,41 @@ STREAM_RULES = [
          'map.'),
 ]
 
+def equality(site: Site) -> Tuple[str, str]:
+    """An equality as it is written, and as it stands at the place."""
+    before = site.word(-1) if site.touches() and site.word(-1) in ('==', '!=') else ''
+    return before or '==', before + '='
+
+
+def pair_around(site: Site) -> Tuple[str, str, str]:
+    """The operands of an operator of two signs, the second one at the place, and the whole text."""
+    start, end = start_of(site, site.index - 1, (*TERMS, '*', '/', '%')), operand_end(site, min(site.index + 1, len(site.tokens) - 1))
+    return text(site, start, site.index - 2), text(site, site.index + 1, end), text(site, start, end)
+
+
+def power_hint(site: Site) -> str:
+    """What to write for a power."""
+    base, exponent, old = pair_around(site)
+    if not re.fullmatch('[2-5]', exponent):
+        return 'There is no power: a product is written out, x * x.'
+    return f'There is no power: {instead(" * ".join([base] * int(exponent)), old)}.'
+
+
+def floor_hint(site: Site) -> str:
+    """What to write for a quotient that is rounded down."""
+    first, second, old = pair_around(site)
+    return f'The quotient that is rounded down is a method: {instead(f"Math.floorDiv({first}, {second})", old)}.'
+
+
 EXPRESSIONS = [
     Rule('product', lambda s: s.kind(-1) is Kind.NUMBER and s.touches() and s.kind() is Kind.NAME,
-         lambda s: f'A product is written with *: {s.word(-1)} * {s.word()}.'),
-    Rule('parted symbol', parted_symbol, lambda s: f'No blank stands inside {parted_symbol(s)}.'),
-    Rule('unequal', lambda s: s.word(-1) + s.word() == '<>', 'Unequal is written !=.'),
-    Rule('equality', lambda s: s.word() == '=' or s.word(-1) == '=', 'Equality is written ==.'),
-    Rule('power', lambda s: s.word() == '*' and s.word(-1) == '*', 'There is no power: write x * x.'),
-    Rule('floor division', lambda s: s.word() == '/' and s.word(-1) == '/',
-         lambda s: f'A quotient is x / {s.word(1)}, and Math.floorDiv(x, {s.word(1)}) is the one that is rounded '
-                   'down.'),
-    Rule('cast', is_cast, 'There are no casts: all numbers are 64-bit integers, so leave it out.'),
+         lambda s: f'A product is written with *: {instead(f"{s.word(-1)} * {s.word()}", s.word(-1) + s.word())}.'),
+    Rule('parted symbol', parted_symbol, lambda s: f'No blank stands inside: {instead(parted_symbol(s), text(s, s.index - 1, s.index))}.'),
+    Rule('unequal', lambda s: s.word(-1) + s.word() == '<>', f'Unequal is written !=: {instead("!=", "<>")}.'),
+    Rule('equality', lambda s: s.word() == '=', lambda s: f'Equality is written ==: {instead(*equality(s))}.'),
+    Rule('power', lambda s: s.word() == '*' and s.word(-1) == '*', power_hint),
+    Rule('floor division', lambda s: s.word() == '/' and s.word(-1) == '/', floor_hint),
+    Rule('cast', is_cast, lambda s: f'There are no casts, since all numbers are 64-bit integers: {without(f"({s.word(-2)})")}.'),
     Rule('method of a value', lambda s: s.word() == '.' and s.wanted is not Wanted.MEMBER, method_hint),
     Rule('method without class', lambda s: s.word() == '(' and s.kind(-1) is Kind.NAME
              and s.wanted is not Wanted.OPEN,
@@ -145,7 +177,7 @@ EXPRESSIONS = [
     Rule('class', lambda s: s.wanted is Wanted.MEMBER,
          'A class stands with a method or a constant: Math.abs(x), Long.MAX_VALUE.'),
     Rule('text in a lambda', lambda s: s.kind() is Kind.STRING,
-         'Lambdas know integers and booleans: make a column of codes of a text before, and compare with the code.'),
+         'Lambdas know integers and booleans: make a column of codes of a text before, and compare with the code, docs/tables.md.'),
     Rule('reserved word', lambda s: s.word() in RESERVED,
          lambda s: f'`{s.word()}` has another meaning: name the parameter otherwise, such as x.'),
     Rule('lambda in a lambda', lambda s: s.word() == '->',

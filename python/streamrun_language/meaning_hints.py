@@ -2,139 +2,101 @@
 from __future__ import annotations
 
 import functools
-from typing import Callable, Dict, List, Optional, Union
+import re
+from typing import Callable, Dict, Optional, Union
 
 from . import expressions as e
 from . import java_words
 from .jobs import MOST_BYTES, MOST_JOBS, MOST_NAME, MOST_SOURCES, MOST_STAGES, MOST_VALUES
-from .lambdas import MOST_INNER_VALUES, Lambda, Want
+from .lambdas import MOST_INNER_VALUES, Lambda
+from .operands import call_at, closing, grouped, index_at, instead, parameter_of, text, without
 from .operators import EXACT, METHODS, OPERATORS
 from .refusals import Cause
+from .row_hints import OTHER_CELL, other_cell
 from .site import Rule, Sentence, Site, listed, nearest
 from .values import CALLS, CONSTANTS, MAX, MIN, Fault, exact
 
-RELATIONS = ('<', '<=', '>', '>=', '==', '!=')
 SAMPLES = (MIN, -7, -1, 0, 1, 5, 12, 2 ** 40, MAX)
-OF_CONDITIONS = {'&': '&&', '|': '||'}
 FOLDING = ('+', '*', '&', '|', '^')
-
-
-def text_at(site: Site, node: e.Node) -> str:
-    """The text of a node without operands."""
-    return next(token.text for token in site.tokens if token.start == node.at)
 
 
 # Names
 
-def name_of(node: e.Node) -> str:
-    """The name of a node that has one."""
-    return node.text if isinstance(node, e.Name) else node.name
+def null_hint(site: Site) -> str:
+    """What to write for a comparison with null."""
+    at = site.open_at()
+    stage = text(site, at - 2, closing(site, at)) if at else ''
+    if re.fullmatch(r'\.filter\(\s*\(?\w+\)?\s*->\s*\w+\s*!=\s*\w+\s*\)', stage):
+        return f'Every value is an integer: {without(stage)}.'
+    return 'Every value is an integer, and a cell without one is filled in the table before, docs/tables.md.'
 
 
 def name_hint(site: Site) -> str:
     """What to write for a name that is no parameter."""
-    name = site.about.text
-    head = site.tokens[:site.index]
-    parameter = next((head[at - 1].text for at in range(len(head) - 1, 0, -1) if head[at].text == '->'), 'x')
-    parameter = 'x' if parameter == ')' else parameter
-    if name in site.earlier or name == site.name():
-        return f'The number of an earlier job is written with a dollar: ${name}.'
+    name, parameter = site.about.text, parameter_of(site) or 'x'
+    near = nearest(name, [parameter]) if len(parameter) > 2 else None
+    if name in site.earlier and site.earlier[name].terminal.name != 'toArray':
+        return f'The number of an earlier job is written with a dollar: {instead("$" + name, name)}.'
+    if name == site.name():
+        return 'A job knows the jobs above it alone, and not itself.'
     if name.lower() in ('true', 'false'):
-        return f'Booleans are written true and false: {name.lower()}.'
+        return f'Booleans are written true and false: {instead(name.lower(), name)}.'
     if name in (site.columns or ()):
-        return f'A lambda has the items of its own source: make one column of it and {name} before, such as by mlr put.'
+        return other_cell(site, name, name)
     if name.upper() in ('MAX_VALUE', 'MIN_VALUE', 'INT_MAX', 'LONG_MAX'):
-        return 'The constants are Long.MAX_VALUE and Long.MIN_VALUE.'
+        known = 'Long.MIN_VALUE' if 'MIN' in name.upper() else '2147483647' if name.upper() == 'INT_MAX' else 'Long.MAX_VALUE'
+        return f'The constants are Long.MAX_VALUE and Long.MIN_VALUE: {instead(known, name)}.'
     if name.lower() in ('null', 'none', 'nil', 'nan'):
-        return 'Every value is an integer: leave items out by a filter.'
-    return f'A lambda knows its parameter: write {parameter} for {name}, or ${name} for the number of a job above.'
+        return null_hint(site)
+    if near:
+        return f'A lambda knows its parameter: {instead(parameter, name)}.'
+    return (f'A lambda knows its parameter, {parameter}, and the numbers of jobs above, as $NAME: {name} is neither, and '
+            f'{OTHER_CELL}.')
+
+
+def quotient_hint(operand: str, name: str) -> Optional[str]:
+    """What to write for a quotient that is rounded."""
+    found = re.fullmatch(r'(.+?)\s*/\s*(\d+)', operand)
+    if not found or name not in ('Math.round', 'Math.ceil') or '(' in found[2]:
+        return None
+    value, by = grouped(found[1]), int(found[2])
+    return f'Math.floorDiv(2 * {value} + {by}, {2 * by})' if name == 'Math.round' else f'-Math.floorDiv(-{value}, {by})'
 
 
 def call_hint(site: Site) -> str:
     """What to write for a method that isn't there."""
-    name = site.about.name
-    operands = ['x', 'y', 'z']
-    for at, node in enumerate(site.about.operands[:3]):
-        operands[at] = text_at(site, node) if isinstance(node, (e.Name, e.Number, e.Reference)) else operands[at]
-    members = {it.split('.')[1]: it for it in reversed(list(CALLS))}
+    name, at = site.about.name, index_at(site, site.about.at)
+    old, operands = call_at(site, at + 3)
+    if name in ('Math.round', 'Math.floor', 'Math.ceil') and len(operands) == 1:
+        cure = quotient_hint(operands[0], name) or operands[0]
+        more = f', and Math.floorDiv rounds down below zero too' if name == 'Math.floor' else ''
+        return f'`/` rounds toward zero by itself: {instead(cure, old)}{more}.'
+    if name == 'Math.pow' and len(operands) == 2 and re.fullmatch('[2-5]', operands[1]):
+        return f'There is no {name}: {instead(" * ".join([grouped(operands[0])] * int(operands[1])), old)}.'
+    if name in java_words.WITHOUT_EXPRESSION:
+        return f'There is no {name}: {java_words.WITHOUT_EXPRESSION[name]}.'
     if name in java_words.METHODS:
-        return f'There is no {name}: write {java_words.METHODS[name].format(*operands)}.'
+        parts = [*(grouped(it) for it in operands), 'y', 'z', 'z']
+        cure = java_words.METHODS[name].format(*parts)
+        return f'There is no {name}: {instead(cure, old)}.'
+    members = {it.split('.')[1]: it for it in reversed(list(CALLS))}
     other = members.get(nearest(name.split('.')[1], list(members)))
-    return f'There is no {name}: ' + (f'did you mean {other}?' if other else f'there are {listed(CALLS)}.')
+    return f'There is no {name}: ' + (f'did you mean {other}? Then {instead(other, name)}.' if other else f'there are {listed(CALLS)}.')
 
 
 def constant_hint(site: Site) -> str:
     """What to write for a constant that isn't there."""
     name = site.about.name
     if name in CALLS:
-        return f'A method has operands: write {name}({", ".join("xy"[:CALLS[name].count])}).'
+        return f'A method has operands: {name}({", ".join("xy"[:CALLS[name].count])}).'
     known = java_words.CONSTANTS.get(name)
-    return f'There is no {name}: write {known}.' if known else f'There is no {name}: the constants are {listed(CONSTANTS)}.'
+    return f'There is no {name}: {instead(known, name)}.' if known else f'There is no {name}: the constants are {listed(CONSTANTS)}.'
 
 
 NAMES = [
     Rule('unknown name', lambda s: isinstance(s.about, e.Name), name_hint),
     Rule('unknown method', lambda s: isinstance(s.about, e.Call), call_hint),
     Rule('unknown constant', lambda s: isinstance(s.about, e.Constant), constant_hint),
-]
-
-
-# Types
-
-def types(site: Site) -> List[Optional[str]]:
-    """The types of the operands of an ill typed node."""
-    return [e.type_of(part) for part in site.about.parts()] if isinstance(site.about, e.Node) else []
-
-
-def operands(site: Site) -> List[e.Node]:
-    """The operands of an ill typed node, without their parentheses."""
-    return [e.without_groups(part) for part in site.about.parts()]
-
-
-def is_binary(site: Site, *names: str) -> bool:
-    """Whether an ill typed node is one of these operators."""
-    return isinstance(site.about, e.Binary) and site.about.name in names
-
-
-def equality_hint(site: Site) -> str:
-    """What to write for a comparison of booleans."""
-    truth = next((it for it in operands(site) if isinstance(it, e.Truth)), None)
-    if truth is None:
-        return 'Conditions are not compared: write c ? d : !d for c == d, and c ? !d : d for c != d.'
-    is_plain = (truth.text == 'true') == (site.about.name == '==')
-    return 'A condition is not compared with {}: leave `{} {}` out{}.'.format(
-        truth.text, site.about.name, truth.text, '' if is_plain else ', and put ! before the condition')
-
-
-TYPES = [
-    Rule('bits of conditions', lambda s: is_binary(s, '&', '|') and 'boolean' in types(s),
-         lambda s: f'Between conditions write {OF_CONDITIONS[s.about.name]}.'),
-    Rule('either of conditions', lambda s: is_binary(s, '^') and 'boolean' in types(s),
-         'Between conditions write c ? !d : d, which is true if just one of them is.'),
-    Rule('compared conditions', lambda s: is_binary(s, '==', '!=') and 'boolean' in types(s), equality_hint),
-    Rule('chain', lambda s: is_binary(s, *RELATIONS) and types(s)[0] == 'boolean',
-         'A comparison has two sides: write 1 < x && x < 9 for 1 < x < 9.'),
-    Rule('side that is no condition', lambda s: is_binary(s, '&&', '||') and 'long' in types(s),
-         lambda s: f'Each side of {s.about.name} is a condition: write x == 1 || x == 2 for x == 1 || 2.'),
-    Rule('numbers of conditions', lambda s: isinstance(s.about, e.Applied) and not is_binary(s, '&&', '||') and
-             'boolean' in types(s),
-         'A condition is no number: write (c ? 1 : 0).'),
-    Rule('not of a number', lambda s: isinstance(s.about, e.Unary) and s.about.name == '!',
-         '! stands before a condition: write !(x > 3) with parentheses, and x == 0 for a number.'),
-    Rule('condition of a choice', lambda s: isinstance(s.about, e.Choice) and types(s)[0] == 'long',
-         'A choice begins with a condition: write x != 0 ? A : B.'),
-    Rule('values of a choice', lambda s: isinstance(s.about, e.Choice),
-         'Both values of a choice are numbers, or both are conditions.'),
-    Rule('number of operands', lambda s: isinstance(s.about, e.Call),
-         lambda s: f'{s.about.name} takes {CALLS[s.about.name].count} operand(s): '
-                   f'{s.about.name}({", ".join("xy"[:CALLS[s.about.name].count])}).'),
-    Rule('values of an inner stream', lambda s: isinstance(s.about, e.Stream),
-         'The values of an inner stream are numbers: write (c ? 1 : 0).'),
-    Rule('condition wanted', lambda s: s.about is Want.BOOLEAN,
-         'A condition is wanted, such as x -> x % 2 == 0 or x -> x != 0.'),
-    Rule('number wanted', lambda s: s.about is Want.LONG,
-         'map wants a number: write .filter(..) to keep items, or c ? 1 : 0.'),
-    Rule('operator of numbers', lambda s: s.about is Want.PAIR, 'An operator gives a number: (a, b) -> a + b.'),
 ]
 
 
@@ -159,6 +121,12 @@ def like_listed(read: Lambda) -> str:
                  if all(value_at(function, *pair) == value_at(other, *pair) for pair in pairs)), '')
 
 
+def argument_of(site: Site) -> str:
+    """The text from the place to the end of the operation's argument."""
+    at = site.open_at()
+    return text(site, site.index, closing(site, at) - 1) if at else ''
+
+
 def lambda_hint(site: Site) -> str:
     """What to write for a lambda that is no listed operator."""
     read: Lambda = site.about
@@ -167,11 +135,11 @@ def lambda_hint(site: Site) -> str:
     name, (first, second) = like_listed(read), read.parameters
     body = e.without_groups(read.body)
     if name:
-        return f'This is `{name}` in another spelling: write {name}.'
+        return f'This is an operator in another spelling: {instead(name, argument_of(site))}.'
     if isinstance(body, e.Binary) and body.name == '-':
         return f'A difference depends on the order of its parts: .map(x -> -x) turns the signs, and sum adds.'
     if isinstance(body, e.Binary) and body.name in FOLDING and getattr(body.operands[0], 'text', '') == first:
-        return f'Calculate with each item in .map({second} -> ..) before, and write {first} {body.name} {second} here.'
+        return f'Calculate with each item in .map({second} -> ..) before, so that {first} {body.name} {second} is left here.'
     return f'The operators are {listed(OPERATORS)}: calculate with single items in a map before.'
 
 
@@ -181,15 +149,16 @@ def word_hint(site: Site) -> str:
     known = java_words.OPERATORS.get(word)
     near = known or nearest(word, [*OPERATORS, *METHODS])
     if word in ('avg', 'mean', 'average', 'count'):
-        return f'There is no operator {word}: write .sum() and .count() in two jobs, and divide in a third.'
+        return f'There is no operator {word}: .sum() and .count() are two jobs, and a third divides, docs/recipes.md.'
     if word in ('minus', 'sub', 'subtract', 'Math::subtractExact'):
         return f'There is no operator {word}: .map(x -> -x) turns the signs, and sum adds.'
-    return f'There is no operator {word}: ' + (f'write {near}.' if near else f'there are {listed(OPERATORS)}.')
+    return f'There is no operator {word}: ' + (f'{instead(near, word)}.' if near else f'there are {listed(OPERATORS)}.')
 
 
 LISTED = [
     Rule('exact sum', lambda s: s.about is EXACT,
-         'Math::addExact stands in reduce(0, Math::addExact) alone: write the 0, or sum.'),
+         lambda s: 'Math::addExact stands in reduce(0, Math::addExact) alone: ' + (instead('0, Math::addExact', 'Math::addExact')
+                   if s.inside() == 'reduce' else instead('sum', 'Math::addExact') + ', which wraps') + '.'),
     Rule('unlisted lambda', lambda s: isinstance(s.about, Lambda), lambda_hint),
     Rule('unlisted name', lambda s: s.about is None, word_hint),
 ]
@@ -203,13 +172,19 @@ def line_of_job(site: Site, name: str) -> int:
     return next((it.line for it in site.lines.jobs if it.text.split(b'=')[0].strip() == head), 0)
 
 
+def quoted(near: str, name: str) -> str:
+    """What to write for the name of a column."""
+    cure = instead(f'"{near}"', f'"{name}"')
+    return f'did you mean "{near}"? Then {cure}.'
+
+
 def column_hint(site: Site) -> str:
     """What to write for a column that isn't there."""
     if site.columns is None:
         return 'No table is given: name it by --columns FILE.'
     near = nearest(site.about, list(site.columns))
     names = ', '.join(f'"{it}"' for it in list(site.columns)[:8]) + (', ..' if len(site.columns) > 8 else '')
-    return f'The table has no such column: did you mean "{near}"?' if near else f'The columns of the table are {names}.'
+    return f'The table has no such column: {quoted(near, site.about)}' if near else f'The columns of the table are {names}.'
 
 
 def job_hint(site: Site) -> str:
@@ -219,7 +194,9 @@ def job_hint(site: Site) -> str:
         return 'A job knows the jobs above it alone, and not itself.'
     if line:
         return f'Line {line} has that job, and a job knows those above it alone: move line {line} up.'
-    return f'No job above has that name: did you mean {near}?' if near else 'No job above has that name: write the job first.'
+    old = site.word() if site.word() in (site.about, '$' + site.about) else ''
+    return (f'No job above has that name: did you mean {near}? Then {instead(old.replace(site.about, near), old)}.' if near and old
+            else 'No job above has that name: it has to be there first.')
 
 
 def length_hint(site: Site) -> str:
@@ -269,7 +246,7 @@ SENTENCES: Dict[Cause, Sentence] = {
     Cause.LITERAL_TOO_LARGE: f'Numbers go from {MIN} to {MAX}: keep the values in a larger unit.',
     Cause.NEGATIVE_COUNT: lambda s: f'{s.about.name} takes 0 or more: delete the minus.',
     Cause.BAD_RANGE: range_hint, Cause.TOO_DEEP: depth_hint, Cause.TOO_LONG: length_hint, Cause.NOT_IDENTITY: identity_hint,
-    Cause.NO_IDENTITY: lambda s: f'{s.about.name} has no identity: leave the number out, reduce({s.about.name}).',
+    Cause.NO_IDENTITY: lambda s: f'{s.about.name} has no identity: {instead(s.about.name, text(s, s.index, s.index + 2))}.',
     Cause.NOT_SCALAR: lambda s: f'.{s.about.name}(..) gives no number: leave onFault out.',
 }
 OTHERS = {cause: [Rule(cause.value, lambda s: True, sentence)] for cause, sentence in SENTENCES.items()}

@@ -3,11 +3,18 @@ from __future__ import annotations
 
 from . import expressions as e
 from .lambdas import WITH_ROWS, WORDS_OF_ROWS, Lambda
+from .operands import closing, instead, is_in_lambda, text
 from .refusals import Wanted
 from .site import Rule, Site, nearest
+from .stage_hints import end_at
 from .tokens import Kind
 
-ASKED_FOR = 'write `version 3` as the first line, and run with --language 3.'
+OTHER_CELL = 'another cell of the row is cell("NAME"), docs/job-language.md'
+
+
+def asked_for(site: Site) -> str:
+    """What else is to be done for a term of version 3, after other things that are to be written."""
+    return '' if site.lines.version >= WITH_ROWS else ', `version 3` as the first line, and run with --language 3'
 
 
 def version_hint(site: Site) -> str:
@@ -15,15 +22,48 @@ def version_hint(site: Site) -> str:
     return 'Files of version 3 are read with --language 3.' if site.lines.version < WITH_ROWS else 'One line says the version, before all jobs.'
 
 
-def column_near(site: Site) -> str:
-    """The column that is meant at the place, or one of the table, or a word that describes it."""
-    names = list(site.columns or ())
-    return nearest(site.word().strip('"'), names) or (names[0] if names else 'NAME')
+def said_name(site: Site, by: int) -> str:
+    """The column that a token names, as the table has it if one is near, or nothing if it is no name."""
+    said = site.word(by).strip('"') if site.kind(by) in (Kind.NAME, Kind.STRING) else ''
+    return nearest(said, list(site.columns or ())) or said
 
 
 def cell_hint(site: Site) -> str:
-    """What to write for the name of a column."""
-    return f'The name of a column stands in double quotes: write cell("{column_near(site)}").'
+    """What to write for a cell whose name has no parentheses or no quotes."""
+    name, is_open = said_name(site, 0), site.wanted is Wanted.CELL_OPEN
+    if name not in (site.columns or ()):
+        return f'A cell has the name of its column in parentheses and double quotes, such as cell("{next(iter(site.columns or ()), "NAME")}").'
+    old = text(site, site.index - (1 if is_open else 2), site.index if is_open else closing(site, site.index - 1))
+    return f'The name of a column stands in parentheses and double quotes: {as_cell(name, old)}.'
+
+
+def as_cell(name: str, old: str) -> str:
+    """A text to be written as a cell."""
+    return instead(f'cell("{name}")', old)
+
+
+def other_cell(site: Site, name: str, old: str) -> str:
+    """What to write for a text that means another cell of the row."""
+    if name in (site.columns or ()) and [token.text for token in site.tokens[1:3]] == ['=', 'column']:
+        return f'Another cell of the row is written so: {as_cell(name, old)}{asked_for(site)}.'
+    return f'Another cell of the row is cell("{name or "NAME"}"), if the source of the job is one column, docs/job-language.md.'
+
+
+def column_hint(site: Site) -> str:
+    """What to write for a column inside a lambda, or for a cell with brackets."""
+    return other_cell(site, said_name(site, 1), text(site, site.index - 1, closing(site, site.index)))
+
+
+def row_hint(site: Site) -> str:
+    """What to write for the place of an item."""
+    old = 'row' if site.word(-1) == 'row' else text(site, site.index - 2, closing(site, site.index - 1))
+    return f'The place of an item has no argument: {instead("row()", old)}.'
+
+
+def exact_hint(site: Site) -> str:
+    """What to write for an exact sum."""
+    cure = instead('.reduce(0, Math::addExact)', text(site, site.index - 1, end_at(site, site.index)))
+    return f'sumExact is of version 3: {cure}; or write `version 3` as the first line, and run with --language 3.'
 
 
 def no_row_hint(site: Site) -> str:
@@ -38,21 +78,20 @@ def is_of_rows(read) -> bool:
     return isinstance(read, Lambda) and any(isinstance(node, (e.Cell, e.Row)) for node in e.nodes_of(read.body))
 
 
-OF_JOBS = [
+ROWS_OF_JOBS = [
     Rule('version 3', lambda s: s.word() == '3' and s.word(-1) == 'version', version_hint),
-    Rule('sumExact', lambda s: s.word() == 'sumExact' and s.wanted is Wanted.OPERATION,
-         f'sumExact is of version 3: {ASKED_FOR[:-1]}; or write .reduce(0, Math::addExact).'),
+    Rule('brackets of a cell', lambda s: s.word() == '[' and s.word(-1) in ('cell', 'column') and is_in_lambda(s), column_hint),
+    Rule('sumExact', lambda s: s.word() == 'sumExact' and s.wanted is Wanted.OPERATION, exact_hint),
 ]
-OF_LAMBDAS = [
+ROWS_OF_LAMBDAS = [
     Rule('cells of version 3', lambda s: s.lines.version < WITH_ROWS and s.word() == '(' and s.word(-1) in WORDS_OF_ROWS,
-         lambda s: f'{s.word(-1)} is of version 3: {ASKED_FOR}'),
-    Rule('column in a lambda', lambda s: s.word() == '(' and s.word(-1) == 'column',
-         lambda s: f'Another cell of the row is cell({s.word(1) if s.kind(1) is Kind.STRING else "NAME"}): {ASKED_FOR}'),
+         lambda s: f'{s.word(-1)} is of version 3: write{asked_for(s)[1:]}.'),
+    Rule('column in a lambda', lambda s: s.word() == '(' and s.word(-1) == 'column', column_hint),
     Rule('quotes of a cell', lambda s: s.wanted is Wanted.STRING or s.wanted is Wanted.CELL_OPEN, cell_hint),
-    Rule('row', lambda s: s.wanted is Wanted.ROW_OPEN, 'The place of an item is row(), without an argument.'),
+    Rule('row', lambda s: s.wanted is Wanted.ROW_OPEN, row_hint),
     Rule('parameter of rows', lambda s: s.wanted is Wanted.PARAMETER and s.word() in WORDS_OF_ROWS,
-         lambda s: f'No parameter is named {s.word()} in version 3: write x.'),
+         lambda s: f'No parameter is named {s.word()} in version 3: name it x, here and in the expression.'),
 ]
 NO_ROW = [Rule('no row', lambda s: True, no_row_hint)]
-OF_OPERATORS = [Rule('rows in an operator', lambda s: is_of_rows(s.about),
-                     'An operator has two numbers and no row: take cell(..) or row() in a map before.')]
+ROWS_OF_OPERATORS = [Rule('rows in an operator', lambda s: is_of_rows(s.about),
+                          'An operator has two numbers and no row: take cell(..) or row() in a map before.')]

@@ -3,7 +3,7 @@ from __future__ import annotations
 
 import difflib
 from dataclasses import dataclass
-from typing import Callable, Collection, Dict, Iterable, List, NamedTuple, Optional, Sequence, Union
+from typing import Callable, Dict, Iterable, List, Mapping, NamedTuple, Optional, Sequence, Union
 
 from .jobs import Job
 from .lines import JobText, Lines
@@ -15,14 +15,14 @@ CLOSE_ENOUGH = 0.6
 
 @dataclass
 class Site:
-    """The place of a refusal. earlier: the jobs above; columns: the names of the table, or None without one; below: the
+    """The place of a refusal. earlier: the jobs above; columns: the cells of the table, or None without one; below: the
     line after the job, without blanks before it."""
 
     job: JobText
     refused: Refused
     lines: Lines
     earlier: Dict[str, Job]
-    columns: Optional[Collection[str]]
+    columns: Optional[Mapping[str, Sequence[int]]]
     below: bytes
 
     def __post_init__(self):
@@ -88,6 +88,11 @@ class Site:
     def rest_of_job(self) -> str:
         """The text from the place on, without a semicolon after it."""
         return self.rest.decode('utf-8', 'replace').strip(' \t;')
+
+    def rest_of_line(self) -> str:
+        """The text from the place to the end of its line."""
+        following = [start for start, _ in self.job.starts if start > self.refused.at]
+        return self.job.text[self.refused.at:following[0] - 1 if following else None].decode('utf-8', 'replace').rstrip()
 
     def line_of(self, at: int) -> int:
         """The line of the file that holds a place of the text."""

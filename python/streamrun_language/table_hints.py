@@ -3,18 +3,17 @@ from __future__ import annotations
 
 import re
 from dataclasses import dataclass
-from typing import Callable, NamedTuple, Union
+from functools import cached_property
+from typing import Callable, NamedTuple, Optional, Union
 
+from .cells import is_missing
 from .refusals import RefusedTable, TableCause
+from .table_view import SEPARATORS, Column, View, look_at, on_one_line, plural, shown
 from .tables import Place
 
 UNPACKED_BY = {b'\x1f\x8b': 'zcat', b'BZh': 'bzcat', b'\xfd7zXZ': 'xzcat', b'\x28\xb5\x2f\xfd': 'zstdcat'}
-SEPARATORS = {';': 'semicolon', '\t': 'tab', '|': 'pipe'}
-MOST_OF_A_NAME = 60
-MISSING = ('na', 'n/a', 'nan', 'null', 'none', 'nil', '-', '.', '?', '#n/a', '\\n')
-# Values of a column in the language of mlr put, X being the cell.
-DIGITS, DECIMAL = 'gsub(string(X), "[^-0-9]", "")', 'fmtnum(int(X), "%d")'
-HUNDREDTHS, DAY = 'int(round(float(sub(string(X), ",", ".")) * 100))', 86400
+JOBS = re.compile(rb'\s*((#|//)[^\n]*\s+)*(version 2\s+)?[A-Za-z_]\w*\s*=\s*[A-Za-z.]+\(')
+ALL_COLUMNS = ' For all columns at once: tools/explain --columns FILE.'
 
 
 @dataclass
@@ -32,24 +31,33 @@ class TableSite:
         self.name = shown(header[at]) if at < len(header) else ''
         self.shown_name = on_one_line(self.name)
 
+    @cached_property
+    def view(self) -> View:
+        """What the whole table holds."""
+        return look_at(self.data)
+
+    def column(self) -> Optional[Column]:
+        """The column of a cell that is no number."""
+        is_there = self.refused.cause is TableCause.BAD_NUMBER and self.refused.column <= len(self.view.columns)
+        return self.view.columns[self.refused.column - 1] if is_there else None
+
     def first_name(self) -> str:
         """The name of the first column."""
         return on_one_line(shown(self.place.header[0]))
 
-    def separator(self) -> str:
-        """The sign that parts the cells, if it isn't the comma."""
-        line = self.place.header[0] if len(self.place.header) == 1 else ''
-        return next((it for it in SEPARATORS if it in line), '')
+    def is_last_with_totals(self) -> bool:
+        """Whether the row is the last one, with the totals of those above."""
+        return self.view.has_totals and self.refused.row == self.view.rows
 
-    def is_bad_number(self, pattern: str) -> bool:
-        """Whether a cell of this form is no number."""
-        matched = re.fullmatch(pattern, self.cell.strip(), re.S | re.I)
-        return self.refused.cause is TableCause.BAD_NUMBER and matched is not None
+    def by(self, *columns: Column) -> str:
+        """The command for some columns, what else it does, and where the one for all is."""
+        others = [it for it in self.view.columns if it.name not in [done.name for done in columns] and (it.is_lost() or it.value())]
+        totals = f' Row {self.view.rows} has totals, and is left out.' if self.view.has_totals and columns else ''
+        return f'`{self.view.command(list(columns))}`.{totals}' + (ALL_COLUMNS if others else '')
 
-    def put(self, value: str) -> str:
-        """The command that writes a value into the column; X stands in it for the cell."""
-        field = '${%s}' % self.shown_name
-        return f"`mlr --csv put '{field} = {value.replace('X', field)}' FILE`"
+    def by_cutting(self) -> str:
+        """The command that leaves the column out."""
+        return self.by(Column(self.shown_name, None, {}, {}, False))
 
 
 class TableRule(NamedTuple):
@@ -58,17 +66,6 @@ class TableRule(NamedTuple):
     name: str
     applies: Callable[[TableSite], object]
     sentence: Union[str, Callable[[TableSite], str]]
-
-
-def shown(text: str) -> str:
-    """A text of a table, which has a character for each byte, as a reader sees it."""
-    return text.encode('latin-1').decode('utf-8', 'replace')
-
-
-def on_one_line(text: str) -> str:
-    """A text without line ends, cut after some characters."""
-    line = ' '.join(text.splitlines())
-    return line if len(line) <= MOST_OF_A_NAME else line[:MOST_OF_A_NAME] + '..'
 
 
 def unpacked_by(site: TableSite) -> str:
@@ -86,17 +83,37 @@ def length_hint(site: TableSite) -> str:
     wanted, found = len(site.place.header), len(site.place.cells)
     counts = f'The header has {wanted} names and this row has {found} cells: '
     if found > wanted and not site.place.cells[-1].strip():
-        return counts + 'delete the comma at the end of the line.'
+        return counts + r"delete the comma at the end of the line, `sed 's/,\r*$//' FILE`."
     if found > wanted:
         return counts + 'a comma inside a cell wants double quotes around the cell, and one inside a number has to go.'
-    return counts + 'write the cells that are missing.'
+    return counts + f'write the cells that are missing, or 0: `{site.view.command([])}`.'
 
 
-def day_format(site: TableSite) -> str:
-    """The form of a date, as strptime wants it."""
-    if re.match(r'\d{4}-', site.cell.strip()):
-        return '%Y-%m-%dT%H:%M:%SZ' if 'T' in site.cell else '%Y-%m-%d'
-    return '%d.%m.%Y' if '.' in site.cell else '%m/%d/%Y'
+def missing_hint(site: TableSite) -> str:
+    """What to do about a cell without a value."""
+    column, word = site.column(), site.cell.strip()
+    count = plural(len(column.missing[word]), f'cell "{word}"' if word else 'empty cell')
+    if not word and column.form.value == 'X' and not site.view.has_totals and not column.is_padded:
+        command = '`mlr --csv fill-empty -v 0 FILE`.' + (ALL_COLUMNS if site.view.lost() else '')
+    else:
+        command = site.by(column)
+    return f'Each cell has a number, and this column has {count}: write 0 or another number, {command}'
+
+
+def odd_hint(site: TableSite) -> str:
+    """What to do about a single cell that is no number."""
+    column = site.column()
+    return (f'Of {plural(site.view.rows, "cell")} {"this one" if len(column.odd) == 1 else f"these {len(column.odd)}"} alone '
+            f'of the column {"is" if len(column.odd) == 1 else "are"} no number: correct the cell, or leave '
+            f'{plural(len(column.odd), "row")} out, {site.by(column)}')
+
+
+def form_hint(site: TableSite) -> str:
+    """What to write for all cells of the column."""
+    column = site.column()
+    if column.is_lost():
+        return f'{column.form.sentence}, or leave the column out: {site.by_cutting()}'
+    return f'{column.form.sentence}: {site.by(column)}'
 
 
 FILES = [
@@ -107,65 +124,52 @@ FILES = [
     TableRule('parquet', lambda s: s.data.startswith(b'PAR1'), 'This is a Parquet file: save its columns as CSV.'),
     TableRule('UTF-16', is_utf_16, 'The file is UTF-16: convert it by `iconv -f UTF-16 -t UTF-8 FILE`.'),
     TableRule('JSON', lambda s: s.data.lstrip()[:1] in (b'{', b'['),
-              'This is JSON: convert it by mlr --ijson --ocsv cat.'),
-    TableRule('separator', lambda s: s.separator(),
-              lambda s: f'Cells are parted by commas, and here by the sign {SEPARATORS[s.separator()]}: '
-                        f'`mlr --icsv --ifs {SEPARATORS[s.separator()]} --ocsv cat FILE`.'),
+              'This is JSON: convert it by `mlr --ijson --ocsv cat FILE`.'),
+    TableRule('job file', lambda s: JOBS.match(s.data),
+              'This looks like a job file: the table is the file after --columns, and the job file the other one.'),
     TableRule('no header', lambda s: s.refused.cause is TableCause.NO_HEADER,
               'The file is empty: its first line has the names of the columns, with commas between them.'),
+    TableRule('lines above', lambda s: s.view.above,
+              lambda s: f'The header is line {s.view.above + 1}, and not the first one: `{s.view.command()}`.'),
+    TableRule('separator', lambda s: len(s.place.header) == 1 and s.view.separator != ',',
+              lambda s: f'Cells are parted by commas, and here by the sign {SEPARATORS[s.view.separator]}: '
+                        f'`{s.view.command()}`.'),
     TableRule('too many columns', lambda s: s.refused.cause is TableCause.TOO_MANY,
               lambda s: f"Keep the columns that jobs name, such as `mlr --csv cut -f '{s.first_name()}' FILE`."),
     TableRule('names that are numbers', lambda s: s.refused.cause is TableCause.SAME_NAME
-                  and re.fullmatch(r'\s*-?[\d.]+\s*', s.cell),
-              'The first line has the names of the columns: put a line of names before the numbers.'),
+              and re.fullmatch(r'\s*-?[\d.]+\s*', s.cell),
+              'The first line has the names of the columns, and here numbers: put a line of names before them, or '
+              'call the columns 1, 2 and so on, `mlr --csv --implicit-csv-header cat FILE`.'),
     TableRule('same name', lambda s: s.refused.cause is TableCause.SAME_NAME,
-              lambda s: f'Two columns are called "{s.shown_name}": rename one of them in the first line.'),
+              lambda s: f'Two columns are called "{s.shown_name}": rename one of them in the first line, or call it '
+                        f'"{s.shown_name}_2" by `mlr --csv cat FILE`.'),
 ]
 
 ROWS = [
     TableRule('comment line', lambda s: s.place.text.startswith(('#', '//')),
-              'A table has no comments: delete them by `grep -v "^#" FILE`.'),
+              lambda s: f'A table has no comments: delete them by `{s.view.command() if s.view.has_comments else GREP}`.'),
     TableRule('open quote', lambda s: any('\n' in it or '\r' in it for it in s.place.cells),
               'A double quote begins a cell that goes on over lines: close it, or delete it.'),
+    TableRule('totals', lambda s: s.is_last_with_totals(),
+              lambda s: f'Row {s.refused.row} is the last one, and has totals of those above: leave it out, '
+                        f'{s.by()}'),
     TableRule('length', lambda s: s.refused.cause is TableCause.WRONG_LENGTH, length_hint),
 ]
 
 CELLS = [
-    TableRule('empty cell', lambda s: s.is_bad_number(''),
-              'Each cell has a number: `mlr --csv fill-empty -v 0 FILE` writes 0 into the empty ones.'),
-    TableRule('missing value', lambda s: s.cell.strip().lower() in MISSING,
-              lambda s: 'Each cell has a number, so write 0 or another one: {}.'.format(
-                  s.put(f'X == "{s.cell.strip()}" ? 0 : X'))),
-    TableRule('no-break space', lambda s: '\u00a0' in s.cell,
+    TableRule('no-break space', lambda s: '\u00a0' in s.cell and re.fullmatch(r'[+-]?\d+', s.cell.strip()),
               'The cell has a no-break space: delete them by `sed "s/\\xc2\\xa0//g" FILE`.'),
-    TableRule('decimals', lambda s: s.is_bad_number(r'[+-]?\d*\.\d+|[+-]?\d+\.'),
-              lambda s: f'A cell is an integer: keep hundredths, {s.put("int(round(X * 100))")}.'),
-    TableRule('date', lambda s: s.is_bad_number(r'\d{4}-\d\d-\d\d.*|\d+/\d+/\d{4}|\d?\d\.\d?\d\.\d{4}'),
-              lambda s: f"""Dates become numbers of days: {s.put(f'strptime(X, "{day_format(s)}") // {DAY}')}."""),
-    TableRule('time', lambda s: s.is_bad_number(r'\d+:\d\d:\d\d'),
-              lambda s: f'Times become seconds: {s.put("hms2sec(X)")}.'),
-    TableRule('thousands', lambda s: s.is_bad_number(r"[+-]?\d{1,3}([,.'_ \u2019]\d{3})+"),
-              lambda s: f'A number has digits alone: delete the thousands separators, {s.put(DIGITS)}.'),
-    TableRule('decimal comma', lambda s: s.is_bad_number(r'[+-]?\d+,\d+'),
-              lambda s: f'A cell is an integer: write the comma as a point and keep hundredths, {s.put(HUNDREDTHS)}.'),
-    TableRule('exponent', lambda s: s.is_bad_number(r'[+-]?\d+(\.\d+)?e[+-]?\d+'),
-              lambda s: f'A number has digits alone, without an exponent: {s.put(DECIMAL)}.'),
-    TableRule('hexadecimal', lambda s: s.is_bad_number('[+-]?0x[0-9a-f]+'),
-              lambda s: f'Numbers are decimal: {s.put(DECIMAL)}.'),
-    TableRule('too large', lambda s: s.is_bad_number(r'[+-]?\d+'),
-              lambda s: 'A number has 64 bits, from -9223372036854775808 to 9223372036854775807: keep it in a larger '
-                        f"unit, or cut the column away by `mlr --csv cut -x -f '{s.shown_name}' FILE`."),
-    TableRule('boolean', lambda s: s.is_bad_number('true|false|yes|no'),
-              lambda s: f"""Booleans become 1 and 0: {s.put(f'X == "{s.cell.strip()}" ? 1 : 0')}."""),
-    TableRule('single quotes', lambda s: s.is_bad_number("'.*'"),
-              "A cell stands in double quotes, or in none: delete the single ones, `tr -d \"'\" < FILE`."),
-    TableRule('unit', lambda s: s.is_bad_number(r'[^\d\s+-]{0,3}\s*[+-]?\d+\s*[^\d\s]{0,3}'),
-              lambda s: f'A number has no unit: {s.put(DIGITS)}.'),
+    TableRule('missing value', lambda s: s.column() and s.column().form and is_missing(s.cell), missing_hint),
+    TableRule('odd cell', lambda s: s.column() and s.refused.row in s.column().odd, odd_hint),
+    TableRule('form', lambda s: s.column() and s.column().form, form_hint),
+    TableRule('blank column', lambda s: s.column() and s.column().is_blank,
+              lambda s: f'No cell of the column has a number, and this one has "{s.cell.strip()}": leave it out by {s.by_cutting()}'),
     TableRule('text', lambda s: True,
-              lambda s: 'A cell is a 64-bit integer and no text: replace the texts by codes, or cut the column '
-                        f"away by `mlr --csv cut -x -f '{s.shown_name}' FILE`."),
+              lambda s: 'A cell is a 64-bit integer and no text: replace the texts by codes (docs/tables.md), or leave the '
+                        f'column out by {s.by_cutting()}'),
 ]
 TABLE_RULES = [*FILES, *ROWS, *CELLS]
+GREP = 'grep -v "^#" FILE'
 
 
 def table_hint(site: TableSite) -> str:

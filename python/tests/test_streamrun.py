@@ -2,6 +2,9 @@
 
 With WITHOUT=numpy,pandas these modules can't be imported, as where they aren't installed.
 """
+import datetime
+import decimal
+import json
 import os
 import pathlib
 import stat
@@ -15,7 +18,7 @@ for module in filter(None, os.environ.get('WITHOUT', '').split(',')):
     sys.modules[module] = None  # type: ignore[assignment]
 
 import streamrun  # noqa: E402
-from streamrun import Fault, Unusable  # noqa: E402
+from streamrun import Fault, JobFailed, Unusable  # noqa: E402
 
 try:
     import numpy
@@ -62,6 +65,22 @@ class Answers(unittest.TestCase):
         with self.assertRaises(KeyError):
             report['nowhere']
 
+    def test_a_fault_is_no_value(self):
+        report = run(EACH_ANSWER)
+        lines = ('fault = fault divide-by-zero stage 1 item 1', 'long = fault source-too-long stage 0 item -', 'after = unusable none')
+        self.assertEqual(report.faults, {'fault': report['fault'], 'long': report['long'], 'after': report['after']})
+        for use in (lambda it: it + 1, lambda it: 2 * it, bool, int, float, list, len, lambda it: it < 3, lambda it: 1 / it, lambda it: it[0],
+                    lambda it: -it, lambda it: sum([it])):
+            with self.assertRaises(JobFailed) as failed:
+                use(report['fault'])
+            self.assertEqual((failed.exception.lines, str(failed.exception)), (lines[:1], lines[0]))
+        with self.assertRaises(TypeError):
+            json.dumps(report['fault'])
+        with self.assertRaises(JobFailed) as failed:
+            report.check()
+        self.assertEqual(failed.exception.lines, lines)
+        self.assertEqual(run('a = of(1).sum()').check()['a'], 1)
+
     def test_numbers_are_exact_up_to_the_ends(self):
         report = run(f'a = of({MIN}, {MAX}, 9007199254740993).toArray()\nb = of({MAX}).sum()')
         self.assertEqual((plain(report['a']), report['b']), ([MIN, MAX, 9007199254740993], MAX))
@@ -90,6 +109,7 @@ class Answers(unittest.TestCase):
 
 class Tables(unittest.TestCase):
     SUM = 's = column("a").sum()'
+    BOTH = 's = column("good").sum()\nt = column("bad one").sum()'
 
     def test_a_dict_of_lists_is_a_table(self):
         report = run('s = column("a, b").sum()\nt = column("").toArray()', {'a, b': [1, 2, MAX - 3], '': (5, 0, -1)})
@@ -117,14 +137,57 @@ class Tables(unittest.TestCase):
     def test_what_is_no_integer_is_refused_by_the_name_of_its_column(self):
         for column in (['x'], [1.0], [True], [None], [MAX + 1], [MIN - 1], ['1'], 'ab', 3):
             with self.assertRaises(streamrun.TableError) as refused:
-                run(self.SUM, {'good': [1], 'bad one': column})
+                run(self.BOTH, {'good': [1], 'bad one': column})
             self.assertEqual(refused.exception.columns, ('bad one',), column)
             self.assertIn("'bad one'", str(refused.exception))
 
+    def test_a_refusal_names_the_first_value_its_row_and_what_to_do(self):
+        for column, words in (([4, 1.5, 'x'], 'has 1.5 in row 2: fractions become hundredths by '), ([4, 2.0], 'has 2.0 in row 2: '),
+                              ([float('nan')], 'has nan in row 1: missing values '), ([None], 'has None in row 1: missing values '),
+                              ([1, True], 'has True in row 2: booleans '), ([decimal.Decimal(1)], "has Decimal('1') in row 1: "),
+                              ([datetime.date(2024, 1, 30)], 'has datetime.date(2024, 1, 30) in row 1: dates become days since 1970 by '),
+                              ([MAX, MAX + 1], f'has {MAX + 1} in row 2: an integer has 64 bits'),
+                              (['a'], "has 'a' in row 1: texts become codes by ")):
+            with self.assertRaises(streamrun.TableError) as refused:
+                run(self.BOTH, {'good': [1, 2, 3][:len(column)], 'bad one': column})
+            self.assertIn(f"column 'bad one' {words}", str(refused.exception))
+
+    @unittest.skipIf(pandas is None, 'pandas is not installed')
+    def test_what_a_refusal_says_is_right(self):
+        # 2024-01-30 is day 19752 since 1970.
+        for column, wanted in (([4, 1.5], [400, 150]), ([4.0, 2.0], [4, 2]), ([4.0, float('nan')], [4, 0]), ([float('nan'), 1.25], [0, 125]), ([True, False], [1, 0]),
+                               (pandas.to_datetime(['2024-01-30 10:00', '2024-01-31']), [19752, 19753]), (['b', 'a', 'b'], [0, 1, 0]),
+                               (pandas.array([1, None], dtype='Int64'), [1, 0])):
+            frame = pandas.DataFrame({'a': column})
+            with self.assertRaises(streamrun.TableError) as refused:
+                run(self.SUM, frame)
+            cure = str(refused.exception).rpartition(' by ')[2]
+            made = eval(cure, {'numpy': numpy, 'pandas': pandas, 'x': frame['a']})
+            self.assertEqual(plain(run('b = column("a").toArray()', {'a': made})['b']), wanted, cure)
+
+    def test_columns_that_no_job_names_may_hold_anything(self):
+        table = {'a': [3, 4], 'text': ['x', 'y'], 'price': [1.5, None], 'short': [1]}
+        self.assertEqual(run(f'# column("text")\n{self.SUM}', table)['s'], 7)
+        self.assertEqual(run('s = range(0, 3).sum()', table)['s'], 3)
+        with tempfile.NamedTemporaryFile('w', suffix='.jobs') as file:
+            file.write(self.SUM)
+            file.flush()
+            self.assertEqual(run(pathlib.Path(file.name), table)['s'], 7)
+        refused = Failures.failure(self, streamrun.JobsRefused, 's = column("b").sum()', table)
+        self.assertIn('"a", "text", "price", "short"', str(refused))
+
+    def test_cells_of_all_sizes_arrive(self):
+        cells = [MIN, MIN + 1, -10 ** 16, -99999999, -1, 0, 7, 9999, 10000, 123456789, 10 ** 16 - 1, MAX]
+        for at in range(1, len(cells) + 1):
+            self.assertEqual(plain(run('a = column("a").toArray()', {'a': cells[:at]})['a']), cells[:at])
+            self.assertEqual(plain(run('b = column("b").toArray()', {'a': cells[-at:], 'b': cells[-at:]})['b']), cells[-at:])
+
     def test_a_table_has_columns_of_one_length_and_of_different_names(self):
-        for table in ({}, {'a': [1], 'b': [1, 2]}, {'1': [1], 1: [2]}, [1, 2]):
+        for table in ({}, {'a': [1], 'b': [1, 2]}, [1, 2]):
             with self.assertRaises(streamrun.TableError):
-                run(self.SUM, table)
+                run('s = column("a").sum()\nt = column("b").sum()', table)
+        with self.assertRaises(streamrun.TableError):
+            run('s = column("1").sum()', {'1': [1], 1: [2]})
 
     @unittest.skipIf(numpy is None, 'numpy is not installed')
     def test_arrays_of_numpy_go_in_and_come_out(self):
@@ -146,10 +209,16 @@ class Tables(unittest.TestCase):
         frame['city'] = ['x', 'y', 'z']
         frame['price'] = [1.5, 2.0, 3.0]
         frame['some'] = pandas.array([1, None, 3], dtype='Int64')
+        jobs = '\n'.join(f'{name} = column("{name}").sum()' for name in frame)
         with self.assertRaises(streamrun.TableError) as refused:
-            run(self.SUM, frame)
+            run(jobs, frame)
         self.assertEqual(refused.exception.columns, ('city', 'price', 'some'))
-        self.assertEqual(run(self.SUM, frame[['a']])['s'], 6)
+        self.assertIn("'price', 'some' too", str(refused.exception))
+        self.assertEqual(run(self.SUM, frame)['s'], 6)
+        frame['day'] = pandas.to_datetime(['2024-01-30', '2024-01-31', '2024-02-01'])
+        with self.assertRaises(streamrun.TableError) as refused:
+            run('d = column("day").sum()', frame)
+        self.assertIn('has 2024-01-30 00:00:00 in row 1: dates become days', str(refused.exception))
         with self.assertRaises(streamrun.TableError):
             run(self.SUM, pandas.concat([frame[['a']], frame[['a']]], axis=1))
 
@@ -201,7 +270,7 @@ class Failures(unittest.TestCase):
                     del sys.modules[name]
                 else:
                     sys.modules[name] = module
-        self.assertEqual(seen, [(b'b = of(1).average()', b'a\n1\n', 2)])
+        self.assertEqual(seen, [(b'b = of(1).average()', b'"a"\n', 2)])
         self.assertEqual(str(refused), 'streamrun: jobs: line 1: syntax\nline 1, column 11\n  here')
 
     def test_a_refusal_goes_without_explain(self):
@@ -216,7 +285,15 @@ class Failures(unittest.TestCase):
         self.assertEqual(str(refused), refused.line)
 
     def test_files_and_options_that_fail_have_errors_of_their_own(self):
-        self.assertEqual(self.failure(streamrun.FileFailed, 'nowhere.jobs').line, 'streamrun: cannot open jobs')
+        nowhere = self.failure(streamrun.FileFailed, 'nowhere.jobs')
+        self.assertEqual(nowhere.line, 'streamrun: cannot open jobs')
+        self.assertIn("'nowhere.jobs', No such file", str(nowhere))
+        both = self.failure(streamrun.FileFailed, 'column("a").sum()', {'a': [1]})
+        self.assertIn('is taken for a path', str(both))
+        self.assertIn('a text of jobs has a =, such as total = column("a").sum()', str(both))
+        self.assertIn('columns=', str(self.failure(streamrun.JobsRefused, 's = column("a").sum()')))
+        with self.assertRaises(TypeError):
+            run(b'a = of(1).sum()')
         self.assertEqual(self.failure(streamrun.FileFailed, 'a = of(1).sum()', 'nowhere.csv').status, 4)
         self.assertEqual(self.failure(streamrun.CommandLineRefused, 'a = of(1).sum()', workers=65).status, 2)
         missing = self.failure(streamrun.ProgramNotFound, 'a = of(1).sum()', program='/nowhere/streamrun')

@@ -14,10 +14,8 @@ from . import mistakes, tables
 TOOL = os.path.join(TOP, 'tools', 'explain')
 MARK = mistakes.MARK.encode()
 BYTE_ORDER_MARK = b'\xef\xbb\xbf'
-MEANT = 'There is no .zum(): did you mean .sum?'
+MEANT = 'There is no .zum(): did you mean .sum? Then write `sum` for `zum`.'
 KEYS = ['file', 'line', 'column', 'cause', 'hint', 'text']
-# A command of a hint that makes an accepted table of one that is refused, and the program that it wants.
-CURE = re.compile(r'`((mlr|iconv|sed|grep|tr) [^`]*)`')
 
 
 def unmarked(text):
@@ -87,21 +85,6 @@ def wrong_files():
             yield f'{data!r}: {found}'
 
 
-def wrong_cures():
-    """Tables that are refused after the command of their hint, too. Miller ends no lines by CR, and a command has no name of
-    two lines."""
-    samples = [unmarked(text)[0] for text, _, _ in tables.ROWS] + [data for data, _ in tables.FILES]
-    for data in samples:
-        found = CURE.search(explain.explain_jobs(b'', data).hint)
-        if found and shutil.which(found[2]) and b'\r' not in data and not data.startswith(b'"'):
-            with tempfile.NamedTemporaryFile() as file:
-                file.write(data)
-                file.flush()
-                done = ran(['sh', '-c', found[1].replace('FILE', file.name)])
-            if done.status or not done.out or explain.explain_jobs(b'', done.out):
-                yield f'{data[-80:]!r}: {found[1]} gives {done.out[:80]!r} {done.err[:80]!r}'
-
-
 def wrong_refusals(cases):
     """Refusals that differ from what was worked out by hand, the cases being (jobs, columns, form, language, (out, err, status))."""
     for jobs, columns, _, newest, (_, err, status) in cases:
@@ -140,7 +123,10 @@ def wrong_commands():
                 ([good, '--columns', folder], ('', 'streamrun: columns: read failed\n', 4))]:
             if run(*arguments) != wanted:
                 yield f'{arguments}: {run(*arguments)}'
-        if not run(bad, '--columns', table)[0].startswith(cell) or run()[2] != 2:
+        view = (f"1 column, 1 row\n\n  a: text\n\nmlr --csv cut -x -f 'a' {table}\nLeft out: a. Codes for texts: docs/tables.md.\n", '', 1)
+        if run('--columns', table) != view or json.loads(run('--columns', table, '--json')[0])['columns'] != {'a': 'text'}:
+            yield f'{run("--columns", table)}'
+        if not run(bad, '--columns', table)[0].startswith(cell) or run()[2] != 2 or run('--column', table)[2] != 2:
             yield f'{run(bad, "--columns", table)}'
         first, second = (json.loads(run(*it, '--json')[0]) for it in ([bad], [bad, '--columns', table]))
         if list(first) != KEYS or list(first.values()) != [bad, 2, 3, 'jobs: line 1: syntax', MEANT, ' .zum()']:

@@ -4,9 +4,9 @@ from collections import defaultdict
 from functools import partial
 from unittest import mock
 
-from streamrun_language import explain, lines, site, table_hints, tables
+from streamrun_language import cells, explain, lines, site, table_hints, tables
 
-from . import cases
+from . import cases, follows
 
 true_caret, true_position, true_place = explain.with_caret, lines.JobText.position, tables.place_of
 true_rule, true_columns = explain.rule_of, explain.read_columns
@@ -56,9 +56,9 @@ def without(rules, at):
 def rows_by_rule():
     """The mistakes of job files that each rule of a cause has a hint for."""
     found = defaultdict(list)
-    for row, columns in cases.all_mistakes():
-        def heard(site, row=row, columns=columns):
-            rule = true_rule(site)
+    for row, columns in [*cases.all_mistakes(), *follows.all_first_tries()]:
+        def heard(data, site, newest, row=row, columns=columns):
+            rule = true_rule(data, site, newest)
             found[site.refused.cause, rule.name].append((row, columns))
             return rule
         with mock.patch.object(explain, 'rule_of', heard):
@@ -76,17 +76,22 @@ def rules_left_out():
     for at, rule in enumerate(table_hints.TABLE_RULES):
         patch = mock.patch.object(table_hints, 'TABLE_RULES', without(table_hints.TABLE_RULES, at))
         yield f'no hint for {rule.name} (a table)', patch, all_wrong_tables
+    for at, form in enumerate(cells.FORMS):
+        yield f'no {form.__name__}', mock.patch.object(cells, 'FORMS', without(cells.FORMS, at)), all_wrong_tables
 
 
 def wrong_in(rows):
     """What is wrong with the explanations of some job files, or of those that are no text."""
-    yield from cases.wrong_mistakes(rows)
+    tries = dict(follows.first_tries.FOLLOWED)
+    yield from cases.wrong_mistakes([it for it in rows if it[0][0] not in tries])
+    yield from follows.wrong_first_tries([(typed, tries[typed]) for (typed, _), _ in rows if typed in tries])
     yield from cases.wrong_files()
 
 
 def all_wrong_tables():
     yield from cases.wrong_tables()
     yield from cases.wrong_files()
+    yield from follows.wrong_whole_tables()
 
 
 def all_wrong():

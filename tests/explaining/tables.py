@@ -15,7 +15,8 @@ ROWS = [
     # Files that are no CSV.
     ('\u00a6', None, ['empty', 'names of the columns']),
     ('\u00a6\n\r\n', None, ['empty']),
-    ('[{"qty": 1}]\n\u00a6x\n', (1, '[{"qty": 1}]', 'x'), ['mlr --ijson --ocsv cat']),
+    ('[\n\u00a6{"qty": 1}]\n', (1, '[', '{"qty": 1}]'), ['mlr --ijson --ocsv cat']),
+    ('# sums\n\u00a6x = of(1).sum()\ny = of(2).sum()\n', (1, '# sums', 'x = of(1).sum()'), ['looks like a job file', '--columns']),
     # Names.
     ('qty,price,\u00a6qty\n1,2,3\n', None, ['"qty"', 'rename']),
     ('5,7,\u00a65\n1,2,3\n', None, ['line of names']),
@@ -51,6 +52,13 @@ ROWS = [
     ('id,qty\r\n\r\n1,2\r\n"3",\u00a6x\r\n', (2, 'qty', 'x'), ["cut -x -f 'qty'"]),
     ('"i\nd",qty\n1,2\n3,\u00a6x\n', (2, 'qty', 'x'), ["cut -x -f 'qty'"]),
     ('"i\nd",qty\n\u00a6x,2\n', (1, 'i\nd', 'x'), ["cut -x -f 'i d'"]),
+    # What the rest of the table says of a cell or a row.
+    ('id,qty\n1,5\n2,6\n3,\u00a6x\n4,7\n', (3, 'qty', 'x'), ['Of 4 cells this one alone', "filter 'NR != 3'"]),
+    ('id,qty\n1,5\n\u00a6Total,5\n', (2, 'id', 'Total'), ['Row 2 is the last one', 'head -n 1']),
+    ('Sales 2024\nid,\u00a6qty\n1,5\n', None, ['header is line 2', 'tail -n +2 FILE']),
+    ('# made by x\nid,\u00a6qty\n1,5\n', None, ['header is line 2', 'tail -n +2 FILE']),
+    ('id,qty,name\n# a comment,5\u00a6\n1,2,Ann\n', None, ['no comments', 'grep -v']),
+    ('id,paid,day\n1,\u00a6yes,2024-01-30\n', (1, 'paid', 'yes'), ['1 and 0', 'tools/explain --columns FILE']),
 ]
 # Files that are no text: the place is not looked at.
 FILES = [
