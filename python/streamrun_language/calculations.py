@@ -73,12 +73,12 @@ def parted(site: Site, text: str) -> Tuple[str, List[str]]:
         word = tokens[index].text
         if word in SOURCES or word == 'LongStream':
             end = job_end(tokens, index)
-            job = data[tokens[index].start:tokens[end].end].decode()
+            job = data[tokens[index].start:tokens[end].end].decode(errors='replace')
             jobs += [job] if job not in jobs else []
-            made += data[last:tokens[index].start].decode() + f'${site.name()}_{jobs.index(job) + 1}'
+            made += data[last:tokens[index].start].decode(errors='replace') + f'${site.name()}_{jobs.index(job) + 1}'
             index, last = end, tokens[end].end
         index += 1
-    made += data[last:].decode()
+    made += data[last:].decode(errors='replace')
     scalars = [name for name, job in site.earlier.items() if job.terminal.name != 'toArray']
     return re.sub(r'(?<![\w.$"])([A-Za-z_]\w*)(?!\w*\s*\()', lambda it: f'${it[1]}' if it[1] in scalars else it[0], made), jobs
 
