@@ -23,8 +23,8 @@ PAGE = """Times every operation that docs/job-language.md names, so a new one is
 Each row is measured over a range, a column, a concat, after a filter, after a flatMap and after a limit. Whether a job is one at all
 the program decides: what it refuses, or answers by a fault, is left out. The figures of a row:
 
-- of its kind: the time per item, or per value that it gives if these are more, divided by the time of the fastest row of its kind in
-  its place, on as many workers; beyond 4 it is marked; `-` if a row takes less than 0.1 ns per item: it ends early or walks nothing.
+- of its kind: the time per item, or per value that it gives if these are more, or per part of a chain, divided by the time of the
+  fastest row of its kind in its place, on as many workers; beyond 4 it is marked; `-` if a row takes less than 0.1 ns per item: it ends early or walks nothing.
   The kind is its sort and what it has to do, since a division isn't an addition: WORK in every_rows.py. A new operation is simple
   until it stands there.
 - ns per item that enters it: on one worker processor time, on several wall time, without the start and the reading of columns.
@@ -41,7 +41,7 @@ Line = namedtuple('Line', 'row place workers nanoseconds')
 
 
 def each_value(line):
-    """Nanoseconds per item, or per value that the row gives if these are more."""
+    """Nanoseconds per item, or per value that the row gives if these are more, or per part of a chain."""
     return line.nanoseconds / line.row.values
 
 

@@ -10,8 +10,9 @@ operations: those that take a processor longer than an addition.
 import re
 from collections import namedtuple
 
-# sort: source, stage, terminal, lambda or condition. kind: what it has to do; rows of one kind are compared with each other.
-# source: the job's, or None: it is measured in each context. values: how many it gives for each item, 1 if fewer.
+# sort: source, stage, terminal, lambda, condition or chain. kind: what it has to do; rows of one kind are compared with each
+# other. source: the job's, or None: it is measured in each context. values: how many it gives for each item, 1 if fewer, or
+# how many parts a chain has.
 Row = namedtuple('Row', 'sort kind name source rest values')
 
 # What an argument may be. Of conditions one is always true, one never, one for every second item.
@@ -170,6 +171,20 @@ def contexts(length):
             ('after a limit', f'range(0, {length}).filter(x -> x != 7).limit({length - 2})', length)]
 
 
+def chains():
+    """Parts in a row, as (what they are, how many, the stages): a part takes its time, however many there are."""
+    def joined(between, count, part):
+        return between.join(part.format(it) for it in range(count))
+    for count in (8, 9, 16, 62):
+        yield 'cases', count, f'map(x -> {joined(" : ", count, "x == {0} ? 1{0}")} : x)'
+    for count in (29, 30, 60):
+        yield 'conditions', count, f'filter(x -> {joined(" && ", count, "x != {0}")})'
+    for count in (4, 5, 16, 64):
+        yield 'operands', count, f'flatMap(x -> of({joined(", ", count, "x + {0}")}))'
+    for count in (3, 4, 8, 32):
+        yield 'flatMaps', count, joined('.', count, 'flatMap(x -> of(x))')
+
+
 def rows(page, length):
     """All rows, in one order for every length."""
     found = []
@@ -183,4 +198,6 @@ def rows(page, length):
     for name, text in lambdas(page):
         found.append(Row('lambda', f'lambda, {work(text)}', name, None, f'map({text}).sum()', 1))
         found.append(Row('condition', f'condition, {work(text)}', name, None, f'filter({text}).sum()', 1))
+    for parts, count, text in chains():
+        found.append(Row('chain', f'chain, {parts}', f'{count} {parts}', f'range(0, {length})', f'{text}.sum()', count))
     return found + list(of_rows(page))

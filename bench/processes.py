@@ -22,6 +22,12 @@ PREFIXES = [('sum', f'range(0, {COUNT}).prefix(Long::sum).sum()'), ('max', f'ran
             ('filter, sum (a tenth kept)', f'range(0, {COUNT // 5}).filter(x -> x % 2 == 0).prefix(Long::sum).sum()')]
 
 
+NUMBERS = {'random': '.map(x -> x * 6364136223846793005 ^ x * 6364136223846793005 >>> 32)',
+           'few': '.map(x -> x * 6364136223846793005 >>> 32 & 1023)', 'ascending': '', 'reversed': '.map(x -> -x)'}
+QUESTIONS_OF_ORDER = {'limit': 'sorted().limit(10).toArray()', 'middle': 'sorted().skip({}).findFirst()',
+                      'distinct': 'distinct().count()'}
+
+
 class Jobs:
     """Times single jobs. An answer that differs from the first one of its job ends the script."""
 
@@ -29,7 +35,7 @@ class Jobs:
         self.program, self.turns, self.folder, self.answers, self.start = options.program, options.turns, folder, {}, None
 
     def cost(self, stream, workers, *words):
-        jobs = write(os.path.join(self.folder, 'one.jobs'), f'q = {stream}\n')
+        jobs = write(os.path.join(self.folder, 'one.jobs'), f'{"version 3" if "--language" in words else ""}\nq = {stream}\n')
         return self.command([self.program, '--workers', str(workers), *words, jobs], stream)
 
     def per_item(self, stream, source=f'range(0, {ITEMS})', words=()):
@@ -85,6 +91,31 @@ def prefixes():
         for name, stream in PREFIXES:
             for workers in (1, 4):
                 row(f'{name}, {workers} worker{"s" * (workers > 1)}', jobs.cost(stream, workers)[:2], 40)
+
+
+def sorting():
+    """Times sorted and distinct over numbers of four kinds beside Java and Rust, which give the program's answers.
+
+    bench/run sorting [--turns N] [--counts N,..] [--kinds random,few,ascending,reversed] [PROGRAM]
+
+    It prints wall and processor time in milliseconds of whole processes, Java's in a warm process too, on its own. Rust sorts on one
+    thread (sort_unstable), or fills a set.
+    """
+    options = options_of(sorting.__doc__, turns=3, counts=['1000000', '10000000'], kinds=list(NUMBERS))
+    with tempfile.TemporaryDirectory() as folder:
+        jobs = Jobs(options, folder)
+        java, rust = peer(folder, 'sorting/Sorting.java', '-Xmx4g'), peer(folder, 'sorting/sorting.rs', '-C', 'target-cpu=native')
+        row('ms', ['wall', 'processor'], 50)
+        for count, kind, (question, ends) in [(n, k, q) for n in options.counts for k in options.kinds for q in QUESTIONS_OF_ORDER.items()]:
+            stream = f'range(0, {count}){NUMBERS[kind]}.{ends.format(int(count) // 2)}'
+            for workers in (1, 4):
+                row(f'{question}, {kind}, {count}, workers: {workers}', jobs.cost(stream, workers, '--language', '3')[:2], 50)
+            words = [kind, question, count]
+            for name, command in [('Java, parallel', java), ('Rust, one thread', rust)]:
+                if command:
+                    row(f'  {name}', jobs.command([*command, *words], stream)[:2], 50)
+            if java:
+                row('  Java, parallel, warm', [float(run([*java, *words, '20'], text=True).out)], 50)
 
 
 def show_turns(turns, commands, ours):

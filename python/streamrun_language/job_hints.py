@@ -6,13 +6,13 @@ from typing import Tuple
 
 from . import java_words
 from .lambdas import Argument, Want, read_lambda
-from .operands import as_jobs, call_at, closing, instead, source_name, text, without
+from .operands import as_jobs, asked_for, call_at, closing, instead, source_name, text, without
 from .refusals import Wanted
 from .site import Rule, Site, listed, nearest
-from .row_hints import OTHER_CELL, asked_for
+from .row_hints import OTHER_CELL
 from .stage_hints import end_at, isin_hint, stage_hint
 from .stage_words import shape
-from .syntax import LATER, NUMBERS, OPERATIONS, SOURCES, STAGES, TERMINALS
+from .syntax import LATER, LATER_STAGES, NUMBERS, OPERATIONS, SOURCES, STAGES, TERMINALS
 from .tokens import Kind
 from .values import BINDS
 
@@ -94,13 +94,14 @@ def operation_hint(site: Site) -> str:
         return f'`{word}` is a source, which begins a job: concat(A, B) joins two.'
     if near:
         return f'There is no .{word}(): did you mean .{near}? Then {instead(near, word)}.'
-    return f'There is no .{word}(): stages are {listed(STAGES)}, and terminals {listed(TERMINALS)}.'
+    stages = [*STAGES, *(it for it in later if it in LATER_STAGES)]
+    return f'There is no .{word}(): stages are {listed(stages)}, and terminals {listed(TERMINALS)}.'
 
 
 def later_hint(site: Site) -> str:
     """What to write for an operation after the terminal."""
     word, before = after_terminal(site), [token.text for token in site.tokens[:site.index]]
-    terminal = next(it for it in reversed(before) if it in TERMINALS or it in LATER)
+    terminal = next(it for it in reversed(before) if it in TERMINALS or it in LATER and it not in LATER_STAGES)
     at = site.index + (site.word() == '.')
     known = stage_hint(site, at)
     if word in java_words.OF_OPTIONALS:
@@ -128,6 +129,9 @@ def without_argument_hint(site: Site) -> str:
     if before and '->' in [token.text for token in site.tokens[site.index:]]:
         old = text(site, site.open_at() - 1, closing(site, site.open_at()))
         return f'{inside}() takes nothing: {instead(f"{before}({old[len(inside) + 1:-1]}).{inside}()", old)}.'
+    known = stage_hint(site, site.open_at() - 1) if inside in LATER_STAGES else ''
+    if known:
+        return known
     if range_of_others(site)[1]:
         return f'A range has no step: {instead(*range_of_others(site))}.'
     if inside == 'column':

@@ -11,7 +11,7 @@ from .lambdas import Lambda, read_lambda
 from .lines import NEWEST, JobText, read_lines
 from .operators import EXACT, Operator, read_operator
 from .refusals import Cause, Refused, RefusedFile
-from .syntax import OPERATIONS, OPERATOR, Call, JobReader, JobSyntax, Source
+from .syntax import LATER_STAGES, OPERATIONS, OPERATOR, Call, JobReader, JobSyntax, Source
 from .tokens import Token
 
 MOST_JOBS, MOST_BYTES, MOST_NAME, MOST_STAGES, MOST_SOURCES, MOST_VALUES = 256, 65536, 64, 32, 8, 1024
@@ -138,6 +138,8 @@ class JobChecker:
         numbers = [number.value() for number in call.numbers]
         if call.name == 'sumExact':
             return Operation('reduce', [EXACT.identity], EXACT)
+        if call.name in LATER_STAGES:
+            return Operation(call.name, [], None)
         want = OPERATIONS[call.name]
         if call.name in ('limit', 'skip') and numbers[0] < 0:
             raise Refused(Cause.NEGATIVE_COUNT, call.numbers[0].at, about=call)

@@ -7,6 +7,7 @@ from __future__ import annotations
 import re
 from typing import Collection, List, Optional, Tuple
 
+from .lambdas import WITH_ROWS
 from .site import Site
 from .syntax import OPERATIONS
 from .tokens import Kind, cut
@@ -29,6 +30,11 @@ def without(old: str) -> str:
 def as_jobs(*jobs: str) -> str:
     """Jobs to be written for the present one."""
     return 'write ' + ', '.join(f'`{job}`' for job in jobs[:-1]) + f' and `{jobs[-1]}`'
+
+
+def asked_for(site: Site) -> str:
+    """What else is to be done for a term of version 3, after other things that are to be written."""
+    return '' if site.lines.version >= WITH_ROWS else ', `version 3` as the first line, and run with --language 3'
 
 
 def closing(site: Site, at: int) -> int:

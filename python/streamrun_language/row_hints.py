@@ -3,18 +3,13 @@ from __future__ import annotations
 
 from . import expressions as e
 from .lambdas import WITH_ROWS, WORDS_OF_ROWS, Lambda
-from .operands import closing, instead, is_in_lambda, text
+from .operands import asked_for, closing, instead, is_in_lambda, text
 from .refusals import Wanted
 from .site import Rule, Site, nearest
 from .stage_hints import end_at
 from .tokens import Kind
 
 OTHER_CELL = 'another cell of the row is cell("NAME"), docs/job-language.md'
-
-
-def asked_for(site: Site) -> str:
-    """What else is to be done for a term of version 3, after other things that are to be written."""
-    return '' if site.lines.version >= WITH_ROWS else ', `version 3` as the first line, and run with --language 3'
 
 
 def version_hint(site: Site) -> str:

@@ -7,14 +7,23 @@ from typing import List, Optional
 
 from .jobs import read_job
 from .model import answers_of
-from .operands import call_at, closing, instead, opening, source_name, text, without
+from .operands import asked_for, call_at, closing, instead, opening, source_name, text, without
 from .refusals import Refused
 from .site import Site
-from .stage_words import BY_MILLER, FIRST, PAGES, STAGES
+from .stage_words import BY_MILLER, DOWN, FIRST, ORDERS, PAGES, RANKS, STAGES, UP
+from .syntax import LATER_STAGES
 from .tokens import Kind
+from .walks import length_of, parts_of
 
 PLACE = ('get', 'nth', 'elementAt', 'at', 'item', 'iloc', 'element')
 LAST, WITHOUT_LAST, SLICE = ('tail', 'takeLast', 'last', 'takeRight'), ('dropLast', 'skipLast', 'init', 'dropRight'), ('slice', 'subList', 'sublist')
+
+MOST_COUNTED = 10 ** 6
+# How others say an order of items: from the least one up, and from the greatest one down.
+RISING = re.compile(r'(Comparator\.)?naturalOrder\(\)|Long::compare(To)?|\((\w+), ?(\w+)\) -> (\3 - \4|Long\.compare\(\3, \4\))'
+                    r'|(\w+) -> \6|ascending ?= ?True|reverse ?= ?False')
+FALLING = re.compile(r'(Comparator|Collections)\.reverseOrder\(\)|\((\w+), ?(\w+)\) -> (\3 - \2|Long\.compare\(\3, \2\))'
+                     r'|(\w+) -> -\5|ascending ?= ?False|reverse ?= ?True')
 
 
 def items_before(site: Site, at: int) -> Optional[int]:
@@ -25,7 +34,7 @@ def items_before(site: Site, at: int) -> Optional[int]:
     except Refused:
         return None
     has_cells = all(cells is not None for cells in (site.columns or {}).values())
-    if list(job.names()) or not has_cells:
+    if list(job.names()) or not has_cells or sum(map(length_of, parts_of(job, dict(site.columns or {}), {}))) > MOST_COUNTED:
         return None
     answer = answers_of([job], dict(site.columns or {}))[job.name]
     return answer.value if isinstance(answer.value, int) else None
@@ -58,11 +67,34 @@ def by_place(site: Site, at: int, operands: List[str]) -> Optional[str]:
     return f'.skip({count})' if word in LAST else f'.limit({count})'
 
 
+def column_of(operand: str) -> str:
+    """The column that an operand of an order names, if it names one."""
+    return re.sub(r'^(by|key) ?= ?', '', operand).strip('"\'')
+
+
+def by_order(site: Site, at: int, operands: List[str]) -> Optional[str]:
+    """What to write for an operation that puts items in an order."""
+    said = [it for it in operands if column_of(it) != source_name(site)]
+    if not said or len(said) == 1 and RISING.fullmatch(said[0]):
+        return UP
+    return DOWN if len(said) == 1 and FALLING.fullmatch(said[0]) else None
+
+
+def by_rank(site: Site, at: int, operands: List[str]) -> Optional[str]:
+    """What to write for an operation that takes an item by its place in the order of values."""
+    word = site.tokens[at].text
+    said, rows = RANKS[word] or ''.join(operands), items_before(site, at - 1)
+    if rows is None or not re.fullmatch(r'\d*\.?\d+', said):
+        return None
+    share = Fraction(said) / (100 if word == 'percentile' or Fraction(said) > 1 else 1)
+    return f'{UP}.skip({max(min(int(share * rows), rows - 1), 0)}){FIRST}'
+
+
 def written(site: Site, at: int) -> Optional[str]:
     """What to write for the operation whose name stands at an index, or None."""
     word, operands = site.tokens[at].text, call_at(site, at + 1)[1] if site.kind(at + 1 - site.index) else []
-    placed = by_place(site, at, operands)
-    if placed is not None or word not in STAGES:
+    placed = (by_order if word in ORDERS else by_rank if word in RANKS else by_place)(site, at, operands)
+    if placed is not None or word not in STAGES or STAGES[word] == '.distinct()' and operands:
         return placed
     if word == 'isin' or re.search(r'\{1\}', STAGES[word]) and len(operands) < 2 or '{0}' in STAGES[word] and not operands:
         return None
@@ -79,6 +111,7 @@ def end_at(site: Site, at: int) -> int:
 def by_miller(site: Site, word: str, operands: List[str]) -> str:
     """The command of Miller for an operation, or the page that has others."""
     column, first = source_name(site), (operands or ['3'])[0]
+    column = column_of(first) if word in ORDERS else column
     if not column or not re.fullmatch(r'\d*\.?\d+', first):
         first = first if re.fullmatch(r'\d*\.?\d+', first) else '3'
     if not column:
@@ -87,6 +120,7 @@ def by_miller(site: Site, word: str, operands: List[str]) -> str:
     name = column if re.fullmatch(r'\w+', column) else f"'{column}'"
     value = Fraction(first)
     what = what.replace('{percent}', str(int(value * 100 if value <= 1 else value))).replace('{0}', first)
+    what = what.replace('{way}', 'r' if any(map(FALLING.fullmatch, operands)) else 'f')
     what = what.replace('{less}', str(max(int(value) - 1, 0))).replace('{column}', name)
     made = {'shift': '_shift', 'shift_lead': '_shift_lead', 'delta': '_delta'}.get(what.split(' ')[2] if what.startswith('step') else '',
                                                                              f'_{max(int(value) - 1, 0)}_0')
@@ -100,15 +134,23 @@ def stage_hint(site: Site, at: int) -> str:
     word, end = site.tokens[at].text, end_at(site, at)
     operands = call_at(site, at + 1)[1] if end > at else []
     cure, old = written(site, at), text(site, at - 1, end)
+    head = f'{word} takes nothing' if word in LATER_STAGES else f'There is no .{word}()'
+    if word in LATER_STAGES and not operands:
+        return f'{word} is of version 3: write{asked_for(site)[1:]}.' if asked_for(site) else ''
+    if cure is not None and any(f'.{it}()' in cure for it in LATER_STAGES):
+        is_last = end + 1 >= len(site.tokens) or site.tokens[end + 1].text != '.'
+        cure += '.toArray()' if is_last and not cure.endswith((FIRST, '.count()')) else ''
+        now = f': there are {items_before(site, at - 1)} items now' if word in RANKS else ''
+        return f'{head}: {instead(cure, old)}{asked_for(site)}{now}.'
     if cure == '':
         return f'All items are integers, and a job only answers: {without(old)}.'
     if cure is not None and word in (*LAST, *WITHOUT_LAST) and cure != '.reduce(last)':
         return f'There is no .{word}(): {instead(cure, old)}, of the {items_before(site, at - 1)} items that there are now.'
     if cure is not None:
         return f'There is no .{word}(): {instead(cure, old)}.'
-    if word in BY_MILLER:
-        return f'There is no .{word}(): {by_miller(site, word, operands)}.'
-    return f'There is no .{word}(): see {PAGES[word]}.' if word in PAGES else ''
+    if word in BY_MILLER and (word not in ORDERS or column_of((operands or [''])[0]) in (site.columns or ())):
+        return f'{head}: {by_miller(site, word, operands)}.'
+    return f'{head}: see {PAGES[word]}.' if word in PAGES else ''
 
 
 def isin_hint(site: Site, at: int) -> str:

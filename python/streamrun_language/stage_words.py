@@ -11,6 +11,11 @@ SHAPES = {'range': 'range(0, 10)', 'rangeClosed': 'rangeClosed(1, 10)', 'of': 'o
           'onFault': 'onFault(0)', 'column': 'column("a")', 'result': 'result(NAME)', 'concat': 'concat(of(1), of(2))'}
 LAMBDAS = {Want.LONG: 'x -> x * 2', Want.BOOLEAN: 'x -> x > 0', Want.STREAM: 'x -> of(x, -x)'}
 FIRST = '.findFirst()'
+UP, DOWN = '.sorted()', '.map(x -> ~x).sorted().map(x -> ~x)'
+# Operations that put items in an order, and those that take one by its place in it, with the share of the items before it; an operand
+# says it, if none stands here.
+ORDERS = ('sorted', 'sort', 'order', 'orderBy', 'sort_values', 'sortBy')
+RANKS = {'median': '0.5', 'percentile': '', 'quantile': ''}
 STAGES = {
     # One for one.
     'where': '.filter({0})', 'keep': '.filter({0})', 'select': '.map({0})', 'apply': '.map({0})', 'transform': '.map({0})',
@@ -39,6 +44,11 @@ STAGES = {
     'eq': '.filter(x -> x == {0})', 'ne': '.filter(x -> x != {0})', 'gt': '.filter(x -> x > {0})', 'ge': '.filter(x -> x >= {0})',
     'lt': '.filter(x -> x < {0})', 'le': '.filter(x -> x <= {0})', 'sumBy': '.map({0}).sum()', 'countIf': '.filter({0}).count()',
     'find': '.filter({0}).findFirst()', 'firstWhere': '.filter({0}).findFirst()', 'detect': '.filter({0}).findFirst()',
+    # In version 3.
+    **dict.fromkeys(('unique', 'uniq', 'drop_duplicates', 'nub', 'toSet'), '.distinct()'),
+    **dict.fromkeys(('nunique', 'countDistinct'), '.distinct().count()'), 'nsmallest': UP + '.limit({0})',
+    **dict.fromkeys(('top', 'topN', 'nlargest'), DOWN + '.limit({0})'),
+    **dict.fromkeys(('sortedDescending', 'sortDescending', 'orderByDescending'), DOWN),
     # What integers don't need.
     **dict.fromkeys(('boxed', 'parallel', 'sequential', 'unordered', 'asLongStream', 'stream', 'onClose', 'close', 'asDoubleStream',
                      'fillna', 'dropna', 'astype', 'toLong', 'longValue', 'intValue', 'nonNull', 'peek', 'compute', 'values'), ''),
@@ -48,30 +58,27 @@ STATISTIC = 'mlr --icsv --opprint stats1 -a {what} -f {column} FILE'
 TABLE = 'mlr --csv {what} FILE'
 BY_MILLER = {
     **{name: (STATISTIC, what) for name, what in {
-        'median': 'p50', 'percentile': 'p{0}', 'quantile': 'p{percent}', 'stddev': 'stddev', 'std': 'stddev', 'stdev': 'stddev',
-        'var': 'var', 'variance': 'var', 'mode': 'mode', 'nunique': 'distinct_count', 'countDistinct': 'distinct_count',
-        'skewness': 'skewness', 'describe': 'count,min,mean,p50,max', 'summary': 'count,min,mean,p50,max'}.items()},
+        'stddev': 'stddev', 'std': 'stddev', 'stdev': 'stddev', 'var': 'var', 'variance': 'var', 'mode': 'mode', 'skewness': 'skewness', 'describe': 'count,min,mean,p50,max', 'summary': 'count,min,mean,p50,max'}.items()},
     **{name: (TABLE, what) for name, what in {
-        'sorted': 'sort -nf {column}', 'sort': 'sort -nf {column}', 'orderBy': 'sort -nf {column}', 'sort_values': 'sort -nf {column}',
-        'sortBy': 'sort -nf {column}', 'reversed': 'tac', 'reverse': 'tac', 'shuffle': 'shuffle', 'sample': 'sample -k {0}',
-        'distinct': 'head -n 1 -g {column}', 'unique': 'head -n 1 -g {column}', 'drop_duplicates': 'head -n 1 -g {column}',
+        **dict.fromkeys(ORDERS, 'sort -n{way} {column}'), 'reversed': 'tac', 'reverse': 'tac', 'shuffle': 'shuffle',
+        'sample': 'sample -k {0}',
         'lag': 'step -a shift -f {column} then fill-empty -v 0', 'shift': 'step -a shift -f {column} then fill-empty -v 0',
         'lead': 'step -a shift_lead -f {column} then fill-empty -v 0', 'diff': 'step -a delta -f {column}',
         'delta': 'step -a delta -f {column}', 'rolling': 'step -a slwin_{less}_0 -f {column}',
         'window': 'step -a slwin_{less}_0 -f {column}', 'moving': 'step -a slwin_{less}_0 -f {column}',
-        'top': 'sort -nr {column} then head -n {0}', 'topN': 'sort -nr {column} then head -n {0}',
-        'nlargest': 'sort -nr {column} then head -n {0}', 'nsmallest': 'sort -nf {column} then head -n {0}',
         'argmax': 'sort -nr {column} then head -n 1', 'idxmax': 'sort -nr {column} then head -n 1',
         'argmin': 'sort -nf {column} then head -n 1', 'idxmin': 'sort -nf {column} then head -n 1',
         'maxBy': 'sort -nr {column} then head -n 1', 'minBy': 'sort -nf {column} then head -n 1',
         'value_counts': 'count-distinct -f {column}', 'groupBy': 'count-distinct -f {column}', 'groupby': 'count-distinct -f {column}',
-        'group_by': 'count-distinct -f {column}', 'histogram': 'count-distinct -f {column}', 'toSet': 'head -n 1 -g {column}'}.items()},
+        'group_by': 'count-distinct -f {column}', 'histogram': 'count-distinct -f {column}'}.items()},
 }
 # Operations for which another page has a way.
 PAGES = {'zip': 'cell("NAME") for another cell of the row, docs/job-language.md', 'join': 'docs/tables.md', 'merge': 'docs/tables.md',
          'indexOf': 'docs/recipes.md', 'rank': 'docs/tables.md', 'partition': 'docs/tables.md', 'pivot': 'docs/tables.md',
          'corr': 'docs/tables.md', 'average': 'docs/recipes.md', 'mean': 'docs/recipes.md', 'avg': 'docs/recipes.md', 'iterate': 'docs/recipes.md', 'summaryStatistics': 'docs/recipes.md',
-         'mapMulti': 'docs/job-language.md'}
+         'mapMulti': 'docs/job-language.md', **dict.fromkeys((*ORDERS, 'distinct', 'unique'), 'docs/tables.md'),
+         **dict.fromkeys(RANKS, '.sorted().skip(N).findFirst() of version 3, with N items before it, docs/recipes.md'),
+         **dict.fromkeys(('top', 'topN', 'nlargest', 'nsmallest'), 'docs/recipes.md')}
 
 
 def shape(name: str) -> str:

@@ -19,8 +19,9 @@ STAGES = {'map': Want.LONG, 'filter': Want.BOOLEAN, 'flatMap': Want.STREAM, 'lim
 TERMINALS = {'sum': None, 'count': None, 'min': None, 'max': None, 'findFirst': None, 'toArray': None,
              'reduce': OPERATOR, 'anyMatch': Want.BOOLEAN, 'allMatch': Want.BOOLEAN, 'noneMatch': Want.BOOLEAN}
 OPERATIONS = {**STAGES, **TERMINALS}
-# A terminal of later versions: the word, and the first version that has it.
-LATER = {'sumExact': 3}
+# Stages and terminals of later versions: the word, and the first version that has it. None takes anything.
+LATER_STAGES = {'sorted': 3, 'distinct': 3}
+LATER = {'sumExact': 3, **LATER_STAGES}
 # How many numbers stand in an operation that has no argument, and may stand before the argument of one.
 NUMBERS = {'limit': 1, 'skip': 1, 'onFault': 1}
 NUMBERS_BEFORE = {'prefix': 2, 'reduce': 1}
@@ -109,7 +110,7 @@ class JobReader(Reader):
         with deep_recursion():
             source = self.source(Wanted.SOURCE)
         calls = [self.call()]
-        while calls[-1].name in STAGES:
+        while calls[-1].name in STAGES or calls[-1].name in LATER_STAGES:
             calls.append(self.call())
         fallback = self.fallback()
         self.has(';')

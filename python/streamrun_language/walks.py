@@ -122,6 +122,20 @@ def prefix_items(items: Items, stage: int, numbers: List[int], operator: Callabl
     yield from zip((place for place, _ in gathered), values)
 
 
+def sorted_items(items: Items) -> Items:
+    """The items in the order of their values. All are asked for before one comes out."""
+    yield from sorted(items, key=lambda item: item[1])
+
+
+def distinct_items(items: Items) -> Items:
+    """The items whose value no item before them has."""
+    seen = set()
+    for place, value in items:
+        if value not in seen:
+            seen.add(value)
+            yield place, value
+
+
 def parts_of(job: Job, columns: Dict[str, List[int]], arrays: Dict[str, List[int]]) -> Iterator[Sequence[int]]:
     """The values of a job's sources; arrays: of the jobs above that this one names."""
     for source in job.sources:
@@ -148,6 +162,8 @@ def walk(job: Job, source: Selection, numbers: Dict[str, int], columns: Dict[str
             items = itertools.islice(items, min(given[0], sys.maxsize), None)
         elif name == 'prefix':
             items = prefix_items(items, stage, given, operation.of.function)
+        elif name in ('sorted', 'distinct'):
+            items = sorted_items(items) if name == 'sorted' else distinct_items(items)
         else:
             stages = {'map': map_items, 'filter': filter_items, 'flatMap': flat_map_items, 'takeWhile': take_while,
                       'dropWhile': drop_while}

@@ -197,25 +197,42 @@ ROWS = [
     ('version \u00a63\nx = column("price").map(p -> p * cell("qty")).sum()', 'x = 9350'),
     ('x = column("price").\u00a6sumExact()', 'x = 1775'),
 ]
-FOLLOWED = [*NUMBERS, *CALCULATIONS, *LAMBDAS, *BEGINS, *ENDS, *ROWS]
+# Prices in order: 100, 200, 275, 300, 400, 500; three are before the half, and five before 95 of a hundred parts.
+ORDERS = [
+    ('x = column("price").\u00a6sorted().limit(2).toArray()', 'x = [100, 200]'),
+    ('version 2\nx = column("price").\u00a6distinct().count()', 'x = 6'),
+    ('x = column("price").\u00a6sort().skip(4).toArray()', 'x = [400, 500]'),
+    ('x = column("price").\u00a6sort_values(by="price").findFirst()', 'x = OptionalLong[100]'),
+    ('x = column("price").\u00a6sort_values("price", ascending=False).limit(1).sum()', 'x = 500'),
+    ('x = column("price").\u00a6orderBy("price");', 'x = [100, 200, 275, 300, 400, 500]'),
+    ('x = column("qty").\u00a6sorted(Comparator.reverseOrder()).limit(2).toArray()', 'x = [10, 6]'),
+    ('x = column("qty").\u00a6sorted((a, b) -> a - b).limit(2).toArray()', 'x = [-1, 2]'),
+    ('x = of(2, 1, 2).\u00a6unique()', 'x = [2, 1]'),
+    ('x = of(2, 1, 2).\u00a6toSet()', 'x = [2, 1]'),
+    ('x = column("qty").map(q -> q / 4).\u00a6nunique()', 'x = 3'),
+    ('x = column("price").\u00a6median()', 'x = OptionalLong[300]'),
+    ('x = column("price").filter(p -> p < 500).\u00a6median()', 'x = OptionalLong[275]'),
+    ('x = column("price").filter(p -> p < 0).\u00a6median()', 'x = OptionalLong.empty'),
+    ('x = column("price").\u00a6percentile(95)', 'x = OptionalLong[500]'),
+    ('x = column("price").\u00a6percentile(100)', 'x = OptionalLong[500]'),
+    ('x = column("price").\u00a6quantile(0.5)', 'x = OptionalLong[300]'),
+    ('x = column("price").\u00a6top(3)', 'x = [500, 400, 300]'),
+    ('x = column("price").\u00a6nsmallest(2).sum()', 'x = 300'),
+]
+FOLLOWED = [*NUMBERS, *CALCULATIONS, *LAMBDAS, *BEGINS, *ENDS, *ROWS, *ORDERS]
 
 # Commands of the hint, each with what is in the last line that it prints over the table; the numbers are worked out by hand.
 COMMANDS = [
-    ('x = column("price").\u00a6median()', ['300']),
-    ('x = column("price").\u00a6percentile(95)', ['500']),
-    ('x = column("price").\u00a6quantile(0.5)', ['300']),
     ('x = column("price").\u00a6stddev()', ['141.78']),
     ('x = column("price").\u00a6std()', ['141.78']),
     ('x = column("price").\u00a6var()', ['20104.16']),
-    ('x = column("price").\u00a6nunique()', ['6']),
     ('x = column("price").\u00a6lag(1).sum()', ['6,20240302,275,6,400']),
     ('x = column("price").\u00a6diff().sum()', ['6,20240302,275,6,-125']),
     ('x = column("price").\u00a6rolling(2).max()', ['6,20240302,275,6,337.5']),
     ('x = column("price").\u00a6window(6).max()', ['6,20240302,275,6,295.83']),
     ('x = column("price").\u00a6reversed().limit(2).toArray()', ['1,20231230,300,4']),
-    ('x = column("price").\u00a6sorted().limit(2).toArray()', ['4,20240201,500,10']),
-    ('x = column("price").\u00a6distinct().count()', ['6,20240302,275,6']),
-    ('x = column("price").\u00a6top(3)', ['1,20231230,300,4']),
+    ('x = column("price").\u00a6sort_values("qty").limit(2).toArray()', ['4,20240201,500,10']),
+    ('x = column("price").\u00a6sort_values("qty", ascending=False).limit(2).toArray()', ['2,20240130,100,-1']),
     ('x = column("price").\u00a6argmax()', ['4,20240201,500,10']),
     ('x = column("price").\u00a6groupBy(p -> p)', ['275,1']),
 ]
@@ -226,6 +243,9 @@ PAGES = [
     ('x = column("price"\u00a6, "qty").sum()', 'docs/job-language.md'),
     ('x = column("price").\u00a6zip(column("qty")).sum()', 'docs/job-language.md'),
     ('x = column("price").filter(p -> p == \u00a6"DE").count()', 'docs/tables.md'),
+    ('x = column("price").\u00a6sortBy(p -> p % 10).findFirst()', 'docs/tables.md'),
+    ('n = of(5).sum()\nx = of(4, 6).filter(x -> x > $n).\u00a6median()', 'docs/recipes.md'),
+    ('x = range(0, 4000000000).\u00a6median()', 'docs/recipes.md'),
     ('x = \u00a6iterate(1, x -> x * 2).limit(5).sum()', 'docs/job-language.md'),
 ]
 # The place alone: what is missing can stand at several places.

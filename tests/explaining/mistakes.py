@@ -138,8 +138,8 @@ ENDS = [
     ('x = of(1).\u00a6\nmap(x -> x * 2).sum()', ['start of the next line']),
     ('x = of(1).\u00a6.sum()', ['One point']),
     ('x = of(1).\u00a6average()', ['`x_1 = of(1).sum()`', '`x_2 = of(1).count()`', '`x = of(0).map(x -> $x_1 / $x_2).sum()`']),
-    ('x = of(1).\u00a6distinct().count()', ['docs/tables.md']),
-    ('x = of(1).\u00a6sorted().toArray()', ['docs/tables.md']),
+    ('x = of(1).\u00a6distinct().count()', ['distinct is of version 3', '`version 3`', '--language 3']),
+    ('x = of(1).\u00a6sorted().toArray()', ['sorted is of version 3', '`version 3`', '--language 3']),
     ('x = of(1).\u00a6forEach(x -> x)', ['.toArray()']),
     ('x = of(1).\u00a6boxed().toArray()', ['leave `.boxed()` out']),
     ('x = of(1).\u00a6tooArray()', ['did you mean .toArray']),
@@ -320,6 +320,11 @@ ROWS = [
     ('version 3\nx = of(1).map(q -> row\u00a6).sum()', ['row()'], 3), ('version 3\nx = of(1).map(q -> row(\u00a6q)).sum()', ['row()'], 3),
     ('version 3\nx = of(1).map(\u00a6cell -> cell).sum()', ['No parameter is named cell'], 3),
     ('version 3\nx = column("qty").reduce(\u00a6(a, b) -> a + cell("price"))', ['map before'], 3),
+    ('version 3\nx = column("qty").sorted(\u00a6(a, b) -> b - a).toArray()', ['write `.map(x -> ~x).sorted().map(x -> ~x)`'], 3),
+    ('version 3\nx = column("qty").sorted(\u00a6x -> x % 2).toArray()', ['takes nothing', 'docs/tables.md'], 3),
+    ('version 3\nx = column("qty").\u00a6sort().toArray()', ['write `.sorted()` for `.sort()`.'], 3),
+    ('version 3\nx = of(2, 1).toArray().\u00a6sorted().toArray()', ['`x = result(x_1).sorted().toArray()`'], 3),
+    ('version 3\nx = of(2, 1).\u00a6zzz()', ['sorted, distinct'], 3),
     ('version 3\nversion \u00a63\nx = of(1).sum()', ['One line'], 3),
 ]
 

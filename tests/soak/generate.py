@@ -195,9 +195,15 @@ class Writer(LambdaWriter):
         """Random stages, each made by one of these functions."""
         makers = {'map': self.map, 'filter': lambda: f'filter(x -> {self.condition(source)})', 'flatMap': self.flat_map,
                   'fault': lambda: self.fault(source), 'slice': lambda: self.slice(source.length),
-                  'while': lambda: self.while_(source), 'prefix': lambda: self.prefix(source.length)}
+                  'while': lambda: self.while_(source), 'prefix': lambda: self.prefix(source.length), 'order': self.order}
         found = [makers[self.random.choice(of)]() for _ in range(self.random.randint(0, most))]
         return found if sum('flatMap' in it for it in found) < 3 else found[:2]
+
+    def order(self):
+        """A sort, or the first of equal items, also of few values; in files of earlier versions a map."""
+        if not self.uses_rows:
+            return 'map(x -> x & 3)'
+        return self.pick('', f'map(x -> {self.pick("x & 3", "x % 3", "x & 255", "-x")}).') + self.pick('sorted()', 'distinct()')
 
     # Kinds of jobs: the source, the stages and the terminal of one job.
 
@@ -236,6 +242,11 @@ class Writer(LambdaWriter):
         return [source.text, *self.stages(source, ['map', 'filter', 'flatMap', 'fault', 'slice', 'while'], 2),
                 self.prefix(source.length), *self.stages(source, ['map', 'filter', 'prefix', 'slice', 'while', 'fault'], 2),
                 self.terminal(source)]
+
+    def orders(self):
+        source = self.source()
+        return [source.text, *self.stages(source, ['map', 'filter', 'flatMap', 'fault', 'slice', 'while'], 2), self.order(),
+                *self.stages(source, ['map', 'order', 'prefix', 'slice', 'slice', 'while', 'fault'], 3), self.terminal(source)]
 
     def named(self):
         self.uses_names = True
@@ -394,7 +405,7 @@ class Writer(LambdaWriter):
             piece = self.pick(b'', b'', b' ', b'(', b')', b',', b'.', b'$', b'$j0', b'x', b'y', b'0', b'-', b'->', b'=', b'"', b'\\',
                               b'\n', b'\r', b'\x00', b'\xff', b'++', b'&&', b'&', b'?', b':', b'Math', b'Long.', b'true', b'1.5',
                               b'9223372036854775808', b'-9223372036854775808', b'.sum()', b'LongStream.', b'# ', b'//', b';',
-                              b'map', b'limit', b'long', b'::', b'[', b'007', b'cell', b'row', b'version 3\n', b'sumExact', data[at:at + 7], data[max(at - 9, 0):at])
+                              b'map', b'limit', b'long', b'::', b'[', b'007', b'cell', b'row', b'version 3\n', b'sumExact', b'.sorted()', b'.distinct()', data[at:at + 7], data[max(at - 9, 0):at])
             data = data[:at] + piece + data[to:]
         return data
 
@@ -407,7 +418,7 @@ def quoted(field):
 # What stands in a file: jobs of these kinds; 'columns' gives a column file too, 'cells' makes some files ones of the last version, with
 # cells, places and its terminals, 'refused' damages some of the bytes.
 KINDS = {'values': Writer.values, 'folds': Writer.folds, 'flatmaps': Writer.flat_maps, 'slices': Writer.slices,
-         'finds': Writer.finds, 'faults': Writer.faults, 'prefix': Writer.prefixes, 'names': Writer.named,
+         'finds': Writer.finds, 'faults': Writer.faults, 'prefix': Writer.prefixes, 'orders': Writer.orders, 'names': Writer.named,
          'sums': Writer.sums, 'long': Writer.long_sources, 'endless': Writer.endless, 'many': Writer.values, 'tables': Writer.tables,
          'columns': None, 'cells': None, 'refused': None}
 # Those that take long, or that few programs can do, are only there if they are asked for.

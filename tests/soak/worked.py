@@ -149,6 +149,9 @@ LATER_ANSWERS = [
 
 # (a job file of version 3, its report)
 LATER_REPORTS = [
+    ('version 3\na = column("a").sorted().map(x -> cell("b")).toArray()\nb = column("b").distinct().map(x -> row()).toArray()\n'
+     'c = concat(column("a"), column("a")).distinct().count()\nd = of(3, 1, 3, 1).sorted().map(x -> row()).toArray()\n',
+     'a = [30, 20, 10]\nb = [0, 1, 2]\nc = 3\nd = [1, 3, 0, 2]\n'),
     ('# c\n\n version \t 3 \r\ncell = of(4).sumExact()\nrow = column("b").map(x -> $cell * row() + cell("a")).toArray()\n'
      'version = result(row).map(x -> x - row()).sum()\n', 'cell = 4\nrow = [3, 4, 3]\nversion = 7\n'),
 ]

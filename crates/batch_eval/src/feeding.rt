@@ -31,10 +31,10 @@ const FIRST_BATCH: u64 = 16;
 ///
 /// The sink gets what `feed_all` of `trace` gives it. Each operator of a stage goes over a whole batch before the next
 /// one, so lambdas may be evaluated at up to one batch of items more than decide the result, and after each `flatMap`
-/// at one batch of inner values more. Expressions that need more than 32 registers, and what comes after a fourth
-/// `flatMap`, are evaluated item by item. So are all items if there are under 8 of them and no `flatMap`, if they are
-/// under 64 and no registers are there yet, or if an allocation of registers failed. `NoMemory` comes from the sink
-/// alone, which then keeps what it has accepted before.
+/// at one batch of inner values more. Expressions that need more than 527 registers are evaluated item by item. So are
+/// all items if there are under 8 of them and no `flatMap`, if they are under 64 and no registers are there yet, or if
+/// an allocation of registers failed. `NoMemory` comes from the sink alone, which then keeps what it has accepted
+/// before.
 pub fn feed_batches<S: BatchSink>(
     line: Pipeline<'_>,
     items: &BatchItems<'_>,

@@ -5,13 +5,14 @@ ghost use Rattle.batch_eval.specs.InnerColumns.{ArePut, HaveOperands, IsMore, gi
 ghost use Rattle.batch_eval.specs.Lanes.{at};
 ghost use Rattle.lambda_values.specs.Earlier.{Numbers};
 ghost use Rattle.lambda_values.specs.Streams.{inner_of, run_values};
-ghost use Rattle.std.specs.Prelude.{◌≡◌, ◌+◌, ◌*◌, ◌-◌, ◌<◌, ◌≤◌, ℕ, ℤ, List, Result, ◌++◌, IfSome, None, Ok, length};
+ghost use Rattle.std.specs.Prelude.{◌≡◌, ◌≢◌, ◌+◌, ◌*◌, ◌-◌, ◌<◌, ◌≤◌, ℕ, ℤ, List, Result, ◌++◌, IfSome, None, Ok};
+ghost use Rattle.std.specs.Prelude.{length};
 ghost use Rattle.trace.specs.Stages.{flat_map, of_item};
 ghost use Rattle.lambda_values.specs.declared.item.Item.{Item};
 
 use crate::batch::{Batch, origin_of};
 use crate::inner_columns::Columns;
-use crate::listing::{list_items, list_places, list_row};
+use crate::listing::{known, list_items, list_places, list_row};
 use crate::register::LANES;
 use lambda_values::{InnerExpr, Run, closed_range, range};
 use trace::InnerItems;
@@ -106,14 +107,11 @@ fn put_values(
                 items: columns.lanes.saturating_sub(from),
                 next: first,
             },
-            1 => put_rows::<1>(columns, places, from, first, origins, values),
-            2 => put_rows::<2>(columns, places, from, first, origins, values),
-            3 => put_rows::<3>(columns, places, from, first, origins, values),
-            4 => put_rows::<4>(columns, places, from, first, origins, values),
-            _ => Put {
-                items: 0,
-                next: first,
-            },
+            1 => put_rows::<1>(1, columns, places, from, first, origins, values),
+            2 => put_rows::<2>(2, columns, places, from, first, origins, values),
+            3 => put_rows::<3>(3, columns, places, from, first, origins, values),
+            4 => put_rows::<4>(4, columns, places, from, first, origins, values),
+            many => put_rows::<0>(many, columns, places, from, first, origins, values),
         },
     }
 }
@@ -166,9 +164,10 @@ fn put_ranges<const CLOSED: bool>(
     Put { items: count, next }
 }
 
-/// Puts the values of `of` with N operands into registers, after the values that are there. Each number of operands has
-/// a loop of its own.
+/// Puts the values of `of` with this many operands into registers, after the values that are there.
+/// Each number of operands up to four has a loop of its own, by N; else N is 0.
 fn put_rows<const N: usize>(
+    operands: usize,
     columns: Columns<'_>,
     places: Places<'_>,
     from: usize,
@@ -176,9 +175,10 @@ fn put_rows<const N: usize>(
     origins: &mut [u64],
     values: &mut [i64],
 ) -> Put
-    requires some { 0 < N }
+    requires some { 0 < operands }
+    requires known { N ≢ 0 → N ≡ operands }
     requires kind { (k : ℕ)
-        → given (inner_of columns.inner.now) columns.registers.now k ≡ Ok (row columns.registers.now k N) }
+        → given (inner_of columns.inner.now) columns.registers.now k ≡ Ok (row columns.registers.now k operands) }
     requires lanes { columns.lanes ≤ 1024 }
     requires places { columns.lanes ≤ length places.listed.now }
     requires counts { CountsUp places.start columns.lanes }
@@ -190,22 +190,31 @@ fn put_rows<const N: usize>(
         (origin_at places.entry.start places.entry.listed.now) (lanes first (item_at None origins.old values.old))
         result.items result.next (item_at None origins.new values.new) }
 {
-    if columns.registers.len() / LANES < N {
+    let width = known::<N>(operands);
+    if columns.registers.len() / LANES < width {
         return Put {
             items: 0,
             next: first,
         };
     }
     let count = columns.lanes.saturating_sub(from);
-    let items = count.min((LANES - first) / N);
+    let items = count.min((LANES - first) / width);
     for item in 0..items {
         let lane = from + item;
         let origin = origin_of(places.start, places.listed, lane);
-        let next = first + item * N;
-        list_row::<N>(columns.registers, lane, origin, next, origins, values);
+        let next = first + item * width;
+        list_row::<N>(
+            width,
+            columns.registers,
+            lane,
+            origin,
+            next,
+            origins,
+            values,
+        );
     }
     Put {
         items,
-        next: first + items * N,
+        next: first + items * width,
     }
 }

@@ -14,13 +14,13 @@ ghost use Rattle.trace.specs.Stages.{stages_of};
 
 use crate::lane_items::LaneItems;
 use crate::register::{Inputs, LANES, eval_long};
-use crate::room::{fits, stages_fit};
+use crate::room::{fits, flags_fit, stages_fit};
 use crate::rows::Rows;
-use lambda_values::{Env, InnerExpr, LongExpr};
+use lambda_values::{BoolExpr, Env, InnerExpr, LongExpr};
 use trace::Stage;
 
-/// Inner streams of more operands are evaluated item by item.
-const MOST_OPERANDS: usize = 4;
+/// Inner streams of more operands, which no lambda has, are evaluated item by item.
+const MOST_OPERANDS: usize = 64;
 
 /// The operands of an inner stream at the first lanes of a batch, in a register for each operand.
 #[derive(Clone, Copy)]
@@ -31,7 +31,7 @@ pub(crate) struct Columns<'a> {
 }
 
 /// How much of the room the registers of the operands may take: none if it is too little for them and the later
-/// stages, or if the operands are more than four.
+/// stages.
 pub(crate) fn column_room(inner: &InnerExpr, later: &[Stage], room: usize) -> usize
     requires { FitsStages (stages_of later.now) room }
     ensures within { result ≤ room }
@@ -49,6 +49,36 @@ pub(crate) fn column_room(inner: &InnerExpr, later: &[Stage], room: usize) -> us
         part
     } else {
         0
+    }
+}
+
+/// Whether room that is enough for these stages is so for the operands of their inner streams too, and then for a test
+/// and its flags.
+pub(crate) fn rest_fits(stages: &[Stage], test: Option<&BoolExpr>, room: usize) -> bool
+    requires { FitsStages (stages_of stages.now) room }
+{
+    let Some((stage, later)) = stages.split_first() else {
+        return flags_fit(test, room);
+    };
+    match stage {
+        Stage::FlatMap(inner) => {
+            let part = column_room(inner, later, room);
+            operands_fit(inner, part / LANES, room - part) && rest_fits(later, test, room - part)
+        }
+        Stage::Map(_) | Stage::Filter(_) => rest_fits(later, test, room),
+    }
+}
+
+/// Whether this many registers are enough for the operands of an inner stream, and room for each of them.
+fn operands_fit(inner: &InnerExpr, registers: usize, room: usize) -> bool {
+    match inner {
+        InnerExpr::Range(from, to) | InnerExpr::RangeClosed(from, to) => {
+            registers >= 2 && fits(from, room) && fits(to, room)
+        }
+        InnerExpr::Of(operands) => {
+            let exprs = operands.exprs();
+            registers >= exprs.len() && exprs.iter().all(|expr| fits(expr, room))
+        }
     }
 }
 

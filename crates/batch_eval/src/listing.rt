@@ -3,7 +3,7 @@
 ghost use Rattle.batch_eval.specs.Batches.{CountsUp, item_at, origin_at};
 ghost use Rattle.batch_eval.specs.Lanes.{at};
 ghost use Rattle.lambda_values.specs.Wrap.{wrap};
-ghost use Rattle.std.specs.Prelude.{◌≡◌, ℕ, ◌+◌, ◌*◌, ◌<◌, ◌≤◌, ◌^◌, ◌+ℤ◌, pos, None};
+ghost use Rattle.std.specs.Prelude.{◌≡◌, ◌≢◌, ℕ, ◌+◌, ◌*◌, ◌<◌, ◌≤◌, ◌^◌, ◌+ℤ◌, pos, None};
 ghost use Rattle.std.specs.Prelude.{Some, length, slice_get, slice_index, take};
 
 use crate::lanes::{Counting, Lanes};
@@ -68,8 +68,17 @@ pub(crate) fn list_items<I: SourceItems>(
     }
 }
 
-/// What N registers hold at a lane, as items at one place from another lane on; the lanes before that stay.
+/// N, which is known where a loop is compiled, unless it is 0; else the number.
+pub(crate) fn known<const N: usize>(number: usize) -> usize
+    requires { N ≢ 0 → N ≡ number }
+    ensures { result ≡ number }
+{
+    if N == 0 { number } else { N }
+}
+
+/// What registers hold at a lane, as items at one place from another lane on; the lanes before that stay.
 pub(crate) fn list_row<const N: usize>(
+    count: usize,
     registers: &[i64],
     lane: usize,
     origin: u64,
@@ -78,15 +87,16 @@ pub(crate) fn list_row<const N: usize>(
     values: &mut [i64],
 )
     requires lane { lane < 1024 }
-    requires registers { N * 1024 ≤ length registers.now }
-    requires origins { first + N ≤ length origins.old }
-    requires values { first + N ≤ length values.old }
-    ensures items { (k : ℕ) → k < N → item_at None origins.new values.new (first + k)
+    requires known { N ≢ 0 → N ≡ count }
+    requires registers { count * 1024 ≤ length registers.now }
+    requires origins { first + count ≤ length origins.old }
+    requires values { first + count ≤ length values.old }
+    ensures items { (k : ℕ) → k < count → item_at None origins.new values.new (first + k)
         ≡ record { origin = origin; value = at registers.now (k * 1024 + lane) } }
     ensures before { (k : ℕ) → k < first
         → item_at None origins.new values.new k ≡ item_at None origins.old values.old k }
 {
-    for k in 0..N {
+    for k in 0..known::<N>(count) {
         values[first + k] = registers[k * LANES + lane];
         origins[first + k] = origin;
     }

@@ -5,20 +5,25 @@ ghost use Rattle.std.specs.Prelude.{◌≡◌, IfOk, IfSome, None, Some, length}
 ghost use Rattle.trace.specs.Stages.{stages_of};
 
 use crate::batch::Batch;
+use crate::inner_columns::rest_fits;
 use crate::register::LANES;
-use crate::room::{flags_fit, stages_fit};
+use crate::room::stages_fit;
 use lambda_values::BoolExpr;
 use std::alloc::Global;
 use trace::{NoMemory, Stage};
 
-/// How many numbers flags and expressions may take while they are evaluated: at first those of 6 registers, and at most
-/// those of 33. `Space::new` says what the two more are for.
-const FEW_REGISTERS: usize = 6 * LANES + 2;
+/// How many numbers flags and expressions may take while they are evaluated: those of 6 registers, if these are enough,
+/// and at most those of 528. A choice 64 deep takes 257, and each operand of inner streams one more. `Space::new` says
+/// what the two more numbers are for.
+const ROOMS: [usize; 5] = [
+    6 * LANES + 2,
+    33 * LANES + 2,
+    66 * LANES + 2,
+    132 * LANES + 2,
+    264 * LANES + 2,
+];
 
-const MOST_REGISTERS: usize = 33 * LANES + 2;
-
-/// How many `flatMap`s of a pipeline go by batches. What comes out of a further one goes item by item.
-const MOST_NESTED: usize = 3;
+const MOST_ROOM: usize = 528 * LANES + 2;
 
 /// A walk over fewer items isn't worth registers, unless each item may become many.
 const LEAST_ITEMS: u64 = 8;
@@ -29,7 +34,7 @@ const FEW_ITEMS: u64 = 64;
 /// What walks by batches of up to 1,024 items keep their values in.
 ///
 /// A worker has one and uses it for each walk. The first walk that needs registers allocates 72 KB, one with larger
-/// expressions up to 288 KB. Nothing is kept from one walk to the next.
+/// expressions up to 4.4 MB, and each `flatMap` 24 KB. Nothing is kept from one walk to the next.
 #[derive(Drop)]
 pub struct Registers {
     alloc: Global,
@@ -53,9 +58,9 @@ impl Registers {
         Registers { alloc, space: None }
     }
 
-    /// Registers that these stages can use for a walk over this number of items, moved out; a sink's test as well,
-    /// unless it needs more than 31 of them. There are none if the stages need more than 32, if the items are under 8,
-    /// or under 64 and an allocation would be needed, without a `flatMap`, or if an allocation failed.
+    /// Registers that these stages can use for a walk over this number of items, moved out; a sink's test and operands
+    /// of inner streams as well, as far as 528 of them are enough. There are none if the stages need more, if the items
+    /// are under 8, or under 64 and an allocation would be needed, without a `flatMap`, or if an allocation failed.
     pub(crate) fn take_for(
         &mut self,
         stages: &[Stage],
@@ -80,15 +85,14 @@ impl Registers {
         }
         if let Some(space) = self.space.take() {
             let room = space.room.len();
-            if stages_fit(stages, room) && (flags_fit(test, room) || room >= MOST_REGISTERS) {
+            if stages_fit(stages, room) && (rest_fits(stages, test, room) || room >= MOST_ROOM) {
                 return Some(space);
             }
         }
         if count < FEW_ITEMS && !grows {
             return None;
         }
-        let few = stages_fit(stages, FEW_REGISTERS) && flags_fit(test, FEW_REGISTERS);
-        let room = if few { FEW_REGISTERS } else { MOST_REGISTERS };
+        let room = room_for(stages, test);
         if !stages_fit(stages, room) {
             return None;
         }
@@ -101,6 +105,16 @@ impl Registers {
     {
         self.space = Some(space);
     }
+}
+
+/// The least room that is enough for these stages and a sink's test, or the largest one.
+fn room_for(stages: &[Stage], test: Option<&BoolExpr>) -> usize {
+    for room in ROOMS {
+        if stages_fit(stages, room) && rest_fits(stages, test, room) {
+            return room;
+        }
+    }
+    MOST_ROOM
 }
 
 /// Whether what comes out of these stages may be longer than what goes in.
@@ -126,8 +140,7 @@ impl Space {
         })
     }
 
-    /// Adds batches for the inner values of the `flatMap`s among these stages, up to three, as far as memory for them
-    /// is there.
+    /// Adds batches for the inner values of the `flatMap`s among these stages, as far as memory for them is there.
     fn nest(&mut self, alloc: Global, stages: &[Stage])
         ensures { self.new.room.items ≡ self.old.room.items }
     {
@@ -135,7 +148,7 @@ impl Space {
             .iter()
             .filter(|stage| matches!(stage, Stage::FlatMap(_)))
             .count();
-        for _ in self.nested.len()..inner.min(MOST_NESTED) {
+        for _ in self.nested.len()..inner {
             let Ok(batch) = Batch::new(alloc) else {
                 return;
             };

@@ -8,8 +8,11 @@ use Rattle.std.specs.List.{list_all}
 use Rattle.tables.specs.declared.table.Column.{Column}
 use Rattle.columns.specs.declared.pieces.TextPiece.{TextPiece}
 use Rattle.columns.specs.Pieces.{ArePut, IsPiece, IsPieceThere, append_columns, append_pieces, blanks, cells_at, with_pieces}
-use Rattle.columns.specs.PlainRows.{AreRead}
-use Rattle.columns.proofs.PlainRowLemmas.{AreRead-join}
+use Rattle.columns.specs.declared.layout.Layout.{Layout}
+use Rattle.columns.specs.Fronts.{kept_rows}
+use Rattle.columns.specs.Layouts.{AreReadBy}
+use Rattle.columns.specs.TextRows.{HaveRows}
+use Rattle.columns.proofs.TextRowLemmas.{AreReadIn-join}
 use Rattle.columns.specs.Table.{first_number}
 use Rattle.tables.specs.Table.{NamedColumn}
 use Rattle.columns.specs.TableOfColumns.{with_row, with_rows}
@@ -49,16 +52,16 @@ append_rows columns piece (row ∷ rows) h =
     append_rows columns (with_row piece row) rows (length-with_row piece row ∙ h) ∙ ap (λ k. with_rows k rows) (append_row columns piece row h)
 
 -- what was read under blank columns can be put under any
-AreRead-append : (xs ys : List ℕ) (columns piece : List NamedColumn) (width : ℕ) → width ≡ length columns → AreRead xs ys (blanks width) piece
-    → AreRead xs ys columns (append_columns columns piece)
-AreRead-append xs ys columns piece width is read =
+AreReadBy-append : (l : Layout) (xs ys : List ℕ) (columns piece : List NamedColumn) (width : ℕ) → width ≡ length columns → AreReadBy l xs ys (blanks width) piece
+    → AreReadBy l xs ys columns (append_columns columns piece)
+AreReadBy-append l xs ys columns piece width is read =
     let wide : length (blanks width) ≡ length columns = length-blanks width ∙ is in
     let none : append_columns columns (blanks width) ≡ columns = ap (λ n. append_columns columns (blanks n)) is ∙ append_blanks columns in
     record {
       rows = read.rows;
       reads = read.reads;
-      good = λ r. rw (sym wide) (read.good r);
-      put = ap (append_columns columns) read.put ∙ append_rows columns (blanks width) read.rows wide ∙ ap (λ k. with_rows k read.rows) none;
+      good = read.good;
+      put = ap (append_columns columns) read.put ∙ append_rows columns (blanks width) (kept_rows l read.rows) wide ∙ ap (λ k. with_rows k (kept_rows l read.rows)) none;
     }
 
 -- the cells in one place, after a piece and after all
@@ -141,21 +144,21 @@ put_more before pieces i place p k cells more h here so_far there grown =
     rw (name, all) (sym (with_pieces_more before pieces i place p h))
 
 -- the next piece is read, and starts where the one before it ends
-pub put_next : (text : List ℕ) (columns : List NamedColumn) (from at width : ℕ) (pieces : List TextPiece) (i : ℕ) (p : TextPiece) → width ≡ length columns
-    → All (IsPieceThere text width) pieces → i < length pieces → p ≡ get_or pieces i p → p.is_read ≡ true → p.from ≡ at
-    → AreRead (drop from text) (drop at text) columns (append_pieces columns (take i pieces))
-    → (p.to ≤ length text) × AreRead (drop from text) (drop p.to text) columns (append_pieces columns (take (i + 1) pieces))
-put_next text columns from at width pieces i p is all h here is_read starts so_far =
-    let one : IsPieceThere text width p = rw (sym here) at (all i p h) in
-    let there : IsPiece text width p = one is_read in
+pub put_next : (l : Layout) (text : List ℕ) (columns : List NamedColumn) (from at width : ℕ) (pieces : List TextPiece) (i : ℕ) (p : TextPiece) → width ≡ length columns
+    → All (IsPieceThere l text width) pieces → i < length pieces → p ≡ get_or pieces i p → p.is_read ≡ true → p.from ≡ at
+    → AreReadBy l (drop from text) (drop at text) columns (append_pieces columns (take i pieces))
+    → (p.to ≤ length text) × AreReadBy l (drop from text) (drop p.to text) columns (append_pieces columns (take (i + 1) pieces))
+put_next l text columns from at width pieces i p is all h here is_read starts so_far =
+    let one : IsPieceThere l text width p = rw (sym here) at (all i p h) in
+    let there : IsPiece l text width p = one is_read in
     let before = append_pieces columns (take i pieces) in
     let wide : length before ≡ length columns = length-append_pieces (take i pieces) columns in
-    let under : AreRead (drop p.from text) (drop p.to text) before (append_columns before (map named p.columns.items)) =
-    AreRead-append _ _ before (map named p.columns.items) width (is ∙ sym wide) there.read in
+    let under : AreReadBy l (drop p.from text) (drop p.to text) before (append_columns before (map named p.columns.items)) =
+    AreReadBy-append l _ _ before (map named p.columns.items) width (is ∙ sym wide) there.read in
     let whole : append_pieces columns (take (i + 1) pieces) ≡ append_columns before (map named p.columns.items) =
     append_pieces_more columns pieces i p h ∙ ap (λ q. append_columns before (map named q.columns.items)) (sym here) in
-    let on : AreRead (drop at text) (drop p.to text) before (append_columns before (map named p.columns.items)) = rw starts at under in
-    (there.ends, rw whole (AreRead-join _ _ _ _ _ _ wide so_far on))
+    let on : AreReadBy l (drop at text) (drop p.to text) before (append_columns before (map named p.columns.items)) = rw starts at under in
+    (there.ends, rw whole (AreReadIn-join _ _ _ _ _ _ _ _ _ so_far on))
 
 -- one column more is empty
 pub emptied_more : (columns : List Column) (i : ℕ) (a : Column) → i < length columns → a.name.items ≡ [] → a.cells.items ≡ [] → map named (take i columns) ≡ blanks i
@@ -163,3 +166,8 @@ pub emptied_more : (columns : List Column) (i : ℕ) (a : Column) → i < length
 emptied_more columns i a h nameless bare so_far =
     let empty : named a ≡ record { name = []; cells = [] } = rw (nameless, bare) refl in
     rw (take_more_set columns i a h, map_push named (take i columns) a, so_far, empty) (sym (blanks_more i))
+
+-- blank columns have no cells
+pub HaveRows-blanks : (n : ℕ) → HaveRows 0 (blanks n)
+HaveRows-blanks zero = tt
+HaveRows-blanks (suc n) = (refl, HaveRows-blanks n)

@@ -1,10 +1,10 @@
 -- The records of a text, from one to the next.
-use Rattle.std.proofs.Common.{◌≡◌, ◌<◌, ◌≤◌, ℕ, zero, suc, List, [], ◌∷◌, Bool, true, false, Some, None, Option, length, refl, sym, ap, ◌∙◌, arith, inl, inr}
+use Rattle.std.proofs.Common.{◌≡◌, ◌<◌, ◌≤◌, ℕ, zero, suc, List, [], ◌∷◌, Bool, true, false, Some, None, Option, length, refl, sym, ap, subst, ◌∙◌, arith, inl, inr}
 use Rattle.std.proofs.lemmas.Bool.{cases_Bool}
 use Rattle.std.proofs.lemmas.Option.{same_Some}
 use Rattle.csv.specs.Machine.{Read, ends_at_end, is_end, next_record, step}
 use Rattle.std.specs.Borrow.{Bor}
-use Rattle.csv.specs.Reading.{AreRecords, Reached, ReadRecord, default_config, is_flexible, records_from, records_next, took_first}
+use Rattle.csv.specs.Reading.{AreRecords, Reached, ReadRecord, is_flexible, reader_config, records_from, records_next, took_first}
 use Rattle.csv.specs.declared.reader.Reader.{Reader}
 use Rattle.csv.proofs.ReadFacts.{rows-end, rows-more}
 use Rattle.columns.specs.Records.{GaveNext, IsReading, IsSetUp}
@@ -61,16 +61,15 @@ AreRecords-records_from cfg (suc n) s xs h = next (next_record cfg s [] [] xs) r
         let (s2, ys, reached, none) = after_record cfg n xs s p h e more in
         (s2, ys, (p, e, refl, reached), none)
 
-Reached-at : (p : Read) (t : State) (z : List ℕ) (rows : List (List (List ℕ))) (s2 : State) (ys : List ℕ) → p.1 ≡ t → p.2 ≡ z
-    → Reached default_config p.1 p.2 rows s2 ys → Reached default_config t z rows s2 ys
-Reached-at p t z rows s2 ys a b h = rw (sym a, sym b) h
+Reached-at : (cfg : Config) (p : Read) (t : State) (z : List ℕ) (rows : List (List (List ℕ))) (s2 : State) (ys : List ℕ) → p.1 ≡ t → p.2 ≡ z
+    → Reached cfg p.1 p.2 rows s2 ys → Reached cfg t z rows s2 ys
+Reached-at cfg p t z rows s2 ys a b h = rw (sym a, sym b) h
 
 -- a read of a record leaves the reader set up
 pub IsSetUp-read : (a b : Reader (Bor (List ℕ))) (found : Bool) (fields : List (List ℕ)) → IsSetUp a
     → ReadRecord (λ bytes. Some bytes.now) a b found fields → took_first b ≡ true → is_flexible b ≡ is_flexible a → IsSetUp b
 IsSetUp-read a b found fields s read first same = record {
   untrimmed = read.3 ∙ s.untrimmed;
-  config = read.2 ∙ s.config;
   flexible = same ∙ s.flexible;
   ready = inl first;
 }
@@ -80,31 +79,34 @@ pub GaveNext-read : (a b : Reader (Bor (List ℕ))) (found : Bool) (fields : Lis
     → IsReading a rows → ReadRecord (λ bytes. Some bytes.now) a b found fields → IsSetUp b → GaveNext rows found fields b
 unfolding Reached
 GaveNext-read a b true fields [] r read after =
-    let (z, at_z, took) = rows-more (λ bytes. Some bytes.now) a b fields default_config a.state r.left r.left [] r.set_up.config r.source (refl, refl) read in
+    let cfg = reader_config a in
+    let (z, at_z, took) = rows-more (λ bytes. Some bytes.now) a b fields cfg a.state r.left r.left [] refl r.source (refl, refl) read in
     let (p, found, same, end) = took in
     let (s2, ys, reached, none) = r.records in
-    let nothing : next_record default_config a.state [] [] r.left ≡ None = rw (reached.0, reached.1) none in
+    let nothing : next_record cfg a.state [] [] r.left ≡ None = rw (reached.0, reached.1) none in
     cc (sym nothing ∙ found)
 GaveNext-read a b true fields (row ∷ rows) r read after =
-    let (z, at_z, took) = rows-more (λ bytes. Some bytes.now) a b fields default_config a.state r.left r.left [] r.set_up.config r.source (refl, refl) read in
+    let cfg = reader_config a in
+    let (z, at_z, took) = rows-more (λ bytes. Some bytes.now) a b fields cfg a.state r.left r.left [] refl r.source (refl, refl) read in
     let (p, found, same, end) = took in
     let (s2, ys, reached, none) = r.records in
     let (q, first_is, row_is, others) = reached in
     let one : q ≡ p = same_Some q p (sym first_is ∙ found) in
-    let here : Reached default_config b.state z rows s2 ys = Reached-at p b.state z rows s2 ys end.0 end.1 (rw one at others) in
-    let left : row ≡ fields = row_is ∙ ap (λ (m : Read). m.0) one ∙ sym same in (
+    let here : Reached cfg b.state z rows s2 ys = Reached-at cfg p b.state z rows s2 ys end.0 end.1 (rw one at others) in
+    let left : row ≡ fields = row_is ∙ ap (λ (m : Read). m.0) one ∙ sym same in
+    let all : AreRecords cfg b.state z rows = (s2, ys, here, none) in (
       rows,
       ap (λ f. f ∷ rows) left,
       record {
         set_up = after;
         left = z;
         source = at_z;
-        records = (s2, ys, here, none);
+        records = subst (λ c. AreRecords c b.state z rows) (sym read.2) all;
       },
     )
 GaveNext-read a b false fields [] r read after = refl
 GaveNext-read a b false fields (row ∷ rows) r read after =
-    let nothing = rows-end (λ bytes. Some bytes.now) a b fields default_config r.left r.set_up.config r.source read in
+    let nothing = rows-end (λ bytes. Some bytes.now) a b fields (reader_config a) r.left refl r.source read in
     let (s2, ys, reached, none) = r.records in
     let (q, first_is, row_is, others) = reached in
     cc (sym nothing ∙ first_is)

@@ -36,7 +36,7 @@ drop_blanks-blanks (x ∷ b) xs h =
     let parts = both (is_blank x) (list_all is_blank b) h in
     rw parts.0 (drop_blanks-blanks b xs parts.1)
 
-digit_no_blank : (d : ℕ) → is_ascii_digit d ≡ true → is_blank d ≡ false
+pub digit_no_blank : (d : ℕ) → is_ascii_digit d ≡ true → is_blank d ≡ false
 digit_no_blank d h = grind (arith, nat_tests)
 
 -- a text that begins with digits has no blanks at its start

@@ -3,11 +3,15 @@ pub mod Cell
 pub mod Cells
 pub mod FaultTexts
 pub mod Fronts
+pub mod Layouts
 pub mod Number
 pub mod Pieces
 pub mod Places
-pub mod PlainRows
 pub mod Records
 pub mod Refusals
 pub mod Table
+pub mod TableCuts
+pub mod TableForms
 pub mod TableOfColumns
+pub mod TableSettings
+pub mod TextRows

@@ -1,8 +1,9 @@
 -- Condition: rows that were read in pieces of their text.
 use Rattle.std.specs.Prelude.{◌≡◌, ◌<◌, ◌≤◌, ◌++◌, ◌∷◌, [], ℕ, ℤ, zero, suc, true, List, length, map, drop, fold, get_or}
+use Rattle.columns.specs.declared.layout.Layout.{Layout}
 use Rattle.columns.specs.declared.pieces.TextPiece.{TextPiece}
 use Rattle.tables.specs.declared.table.Column.{Column}
-use Rattle.columns.specs.PlainRows.{AreRead}
+use Rattle.columns.specs.Layouts.{AreReadBy}
 use Rattle.tables.specs.Table.{NamedColumn}
 use Rattle.tables.specs.TableOfColumns.{named}
 
@@ -40,11 +41,11 @@ abbrev pub ArePut : List TextPiece → List Column → List Column → Type 0
 ArePut pieces before after =
     (place : ℕ) (c : Column) → place < length before → IsPut pieces place (get_or before place c) (get_or after place c)
 
--- the piece holds the rows from a record's start to another one
-pub record IsPiece (text : List ℕ) (width : ℕ) (p : TextPiece) : Type 0 where
+-- the piece holds the rows from a record's start, if one is there, to another one
+pub record IsPiece (l : Layout) (text : List ℕ) (width : ℕ) (p : TextPiece) : Type 0 where
   pub ends : p.to ≤ length text
-  pub read : AreRead (drop p.from text) (drop p.to text) (blanks width) (map named p.columns.items)
+  pub read : AreReadBy l (drop p.from text) (drop p.to text) (blanks width) (map named p.columns.items)
 
 -- the piece holds the rows from a record's start to another one, if it was read
-abbrev pub IsPieceThere : List ℕ → ℕ → TextPiece → Type 0
-IsPieceThere text width p = p.is_read ≡ true → IsPiece text width p
+abbrev pub IsPieceThere : Layout → List ℕ → ℕ → TextPiece → Type 0
+IsPieceThere l text width p = p.is_read ≡ true → IsPiece l text width p

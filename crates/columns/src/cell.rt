@@ -7,6 +7,7 @@ ghost use Rattle.std.specs.List.{list_all};
 ghost use Rattle.std.specs.Char.{is_ascii_digit};
 ghost use Rattle.columns.specs.Cell.{SpellsCell, digits_value, is_blank};
 ghost use Rattle.columns.specs.Number.{drop_blanks, number_of, signed_digits, signed_number};
+ghost use Rattle.columns.specs.TableForms.{filled};
 
 /// The number that a cell spells in decimal digits, with one sign or none before them, and spaces and tabs around.
 /// There may be any number of digits, and leading zeros. `None` for any other text, and for a number that an `i64`
@@ -17,6 +18,22 @@ pub fn read_cell(cell: &[u8]) -> Option<i64>
     ensures only { (n : ℤ) → SpellsCell cell.now n → result ≡ Some n }
 {
     signed(without_last_blanks(without_first_blanks(cell)))
+}
+
+/// The number that a cell spells, or the number that is given for a blank one.
+pub(crate) fn read_filled(blank: Option<i64>, cell: &[u8]) -> Option<i64>
+    ensures { result ≡ number_of (filled blank cell.now) }
+{
+    match blank {
+        Some(number) if are_blanks(cell) => Some(number),
+        _ => read_cell(cell),
+    }
+}
+
+fn are_blanks(text: &[u8]) -> bool
+    ensures { result ≡ list_all is_blank text.now }
+{
+    text.iter().all(|byte| is_blank(*byte))
 }
 
 fn signed(text: &[u8]) -> Option<i64>

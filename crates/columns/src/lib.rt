@@ -1,14 +1,17 @@
-//! Column files: text files of integer columns, read into their columns or refused.
+//! Column files: tables with columns of integers, read into these columns or refused.
 //!
-//! Stands on `csv`, whose own definition of the records of a text is cited here, and on `counted_io`, whose readers
-//! it gives out. It is for the job reader, which takes a job's cells from `Columns::get`, and for the
-//! program. What it promises to them: `read_columns` and, on threads, `read_columns_by`, clause `cells`: the columns
-//! that the bytes give, names and cells in order, or the first fault with its row and column; clause `read`: a failed
-//! read is reported only if one was counted.
+//! Stands on `csv`, whose own definition of the records of a text is cited here, on `counted_io`, whose readers
+//! it gives out, and on `tables`. It is for the job reader, which takes a job's cells from `Columns::get`, and for the
+//! program. What it promises to them: `read_columns_as`, clause `cells`: the columns that the bytes give in a form,
+//! names and cells in order, or the first fault with its row and column; clause `read`: a failed read is reported only
+//! if one was counted. `read_columns` and, on threads, `read_columns_by` are its default.
+//! Laws: by default a table of integers is read (`by_default_tables_are_as_before`), and else what a cut to the named
+//! columns leaves (`named_columns_are_what_a_cut_leaves`).
 //!
-//! Begin with `specs/Cells.antt` (bytes to columns), then `specs/Table.antt`, `specs/Refusals.antt`
-//! and `specs/Cell.antt` (the grammar of one number); of the code with `reading.rt`. `records.rt`
-//! alone opens a `csv` reader; `plain.rt` reads rows of numbers without it, by `digits.rt`, and `pieces.rt` on threads.
+//! Begin with `specs/Cells.antt` (bytes to columns), then `specs/Table.antt`, `specs/Refusals.antt` and
+//! `specs/Cell.antt` (the grammar of one number), and `specs/TableForms.antt` (other forms); of the code with
+//! `reading.rt`. `records.rt` alone opens a `csv` reader; `text_rows.rt` reads rows without it, numbers by `numbers.rt`
+//! and other cells by `text_cell.rt`, and `pieces.rt` reads them on threads.
 //!
 //! Not promised: anything of the bytes that a file or a pipe holds, and that there is memory.
 #![tactic(auto)]
@@ -18,15 +21,23 @@ mod cell;
 mod digits;
 mod fault;
 mod header;
+mod laws;
+mod layout;
+mod numbers;
 mod pieces;
-mod plain;
 mod reading;
 mod records;
 mod round_bytes;
 mod rounds;
 mod rows;
+mod separator;
+mod text_cell;
+mod text_rows;
 
 pub use cell::read_cell;
 pub use fault::ColumnFault;
-pub use reading::{read_columns, read_columns_by};
+pub use laws::{by_default_tables_are_as_before, named_columns_are_what_a_cut_leaves};
+pub use layout::TableForm;
+pub use reading::{read_columns, read_columns_as, read_columns_by};
+pub use separator::Separator;
 pub use tables::Columns;

@@ -1,22 +1,25 @@
 //! Plain rows, read in pieces of their text on threads of their own.
 //!
-//! A text is cut after line feeds. Each piece is read as if a record began with it. Its rows are put under the rows of
-//! the piece before only if that piece was read exactly up to this place, so no cut inside quotes is taken for one
-//! between records.
+//! A text is cut after line feeds. Each piece is read as if a record began with it, until a row ends at its end or
+//! after it. Its rows are put under the rows of the piece before only if that piece was read exactly up to this place,
+//! so no cut inside quotes is taken for one between records. The next pieces begin where the last one ended whose rows
+//! were put: there a record begins.
 //!
 //! One piece for each worker is read at a time, each on a thread. Then each column gets its cells on a thread of its
 //! own. The vectors of the pieces are used again, since memory that is new to the system costs more time than the
 //! parsing of what is put there.
-ghost use Rattle.std.specs.Prelude.{◌≡◌, ◌<◌, ◌≤◌, [], true, All, List, IfOk, IfSome, length, map, drop};
-ghost use Rattle.std.specs.Bool.{MatchBool};
+ghost use Rattle.std.specs.Prelude.{◌≡◌, ◌≤◌, true, All, List, IfOk, length, map, drop, take};
 ghost use Rattle.std.specs.List.{list_all};
+ghost use Rattle.columns.specs.declared.layout.Layout.{Layout};
+ghost use Rattle.columns.specs.Layouts.{AreReadBy, Fits};
 ghost use Rattle.columns.specs.Pieces.{ArePut, IsPieceThere, IsPut, append_pieces, blanks};
-ghost use Rattle.columns.specs.PlainRows.{AreRead};
 ghost use Rattle.tables.specs.Table.{NamedColumn};
 ghost use Rattle.tables.specs.TableOfColumns.{named};
+ghost use Rattle.columns.specs.TextRows.{HaveRows};
 
-use crate::plain::read_plain_rows;
-use crate::reading::rows_to_expect;
+use crate::header::rows_to_expect;
+use crate::layout::Layout;
+use crate::text_rows::read_text_rows;
 use std::alloc::{AllocError, Global};
 use std::thread;
 use std::thread::Threads;
@@ -39,30 +42,33 @@ pub(crate) struct TextPiece {
     columns: Vec<Column>,
 }
 
-/// Reads the rows from place `from` on, which is the start of a record, under the columns, and answers whether all are
-/// plain. If not, the columns may hold some of their cells.
-pub(crate) fn read_plain_rows_by<H: Threads + Sync>(
+/// Reads the rows from place `from` on, which is the start of a record, under the columns, and answers up to where they
+/// are plain. The columns have no cells, and get the rows before that place.
+pub(crate) fn read_text_rows_by<H: Threads + Sync>(
     team: &Team<'_, H>,
     alloc: Global,
     text: &[u8],
     from: usize,
+    layout: &Layout,
     columns: &mut [Column],
-) -> bool
+) -> Result<usize, AllocError>
     requires within { from ≤ length text.now }
-    requires some_column { 0 < length columns.old }
-    ensures { result ≡ true → AreRead (drop from text.now) [] (map named columns.old) (map named columns.new) }
+    requires fits { Fits layout.now (length columns.old) }
+    requires empty { HaveRows 0 (map named columns.old) }
+    ensures read { IfOk result (λ end. AreReadBy layout.now (drop from text.now) (drop end text.now)
+        (map named columns.old) (map named columns.new)) }
+    ensures within { IfOk result (λ end. end ≤ length text.now) }
 {
     let bytes = team.piece;
     if text.len() - from <= bytes {
-        return read_plain_rows(text, from, text.len(), columns);
+        return Ok(read_text_rows(text, from, text.len(), layout, columns));
     }
     let first = &text[from..from.saturating_add(bytes).min(text.len())];
     let rows = rows_to_expect(first, first.len(), columns.len());
     let count = team.workers.min((text.len() - from).div_ceil(bytes.max(1)));
-    let Ok(mut pieces) = empty_pieces(alloc, count, columns.len(), rows) else {
-        return false;
-    };
-    read_in_turns(team.rt, text, from, bytes, pieces.as_mut_slice(), columns)
+    let mut pieces = empty_pieces(alloc, count, columns.len(), rows)?;
+    let pieces = pieces.as_mut_slice();
+    read_in_turns(team.rt, text, from, bytes, layout, pieces, columns)
 }
 
 /// A number of pieces, none of them read yet, with room for this many rows each.
@@ -97,18 +103,22 @@ fn nameless_columns(alloc: Global, width: usize, rows: usize) -> Result<Vec<Colu
     Ok(columns)
 }
 
-/// Reads the rows from place `from` on, in turns of `pieces.len()` pieces.
-fn read_in_turns<H: Threads + Sync>(
+/// Reads the rows from place `from` on, which is the start of a record, in turns of `pieces.len()` pieces, puts them
+/// under the columns and answers up to where they are plain.
+pub(crate) fn read_in_turns<H: Threads + Sync>(
     rt: &H,
     text: &[u8],
     from: usize,
     bytes: usize,
+    layout: &Layout,
     pieces: &mut [TextPiece],
     columns: &mut [Column],
-) -> bool
+) -> Result<usize, AllocError>
     requires within { from ≤ length text.now }
-    requires some_column { 0 < length columns.old }
-    ensures { result ≡ true → AreRead (drop from text.now) [] (map named columns.old) (map named columns.new) }
+    requires fits { Fits layout.now (length columns.old) }
+    ensures read { IfOk result (λ end. AreReadBy layout.now (drop from text.now) (drop end text.now)
+        (map named columns.old) (map named columns.new)) }
+    ensures within { IfOk result (λ end. end ≤ length text.now) }
 {
     let mut at = from;
     // Each turn takes a byte at least.
@@ -116,16 +126,17 @@ fn read_in_turns<H: Threads + Sync>(
         if at == text.len() {
             break;
         }
-        read_pieces(rt, text, at, bytes, pieces, columns.len());
-        let Some(next) = end_of_pieces(text, at, pieces) else {
-            return false;
-        };
-        if !put_pieces(rt, pieces, columns) {
-            return false;
+        read_pieces(rt, text, at, bytes, layout, pieces, columns.len());
+        let (count, next) = pieces_in_line(text, at, pieces);
+        if next <= at {
+            break;
+        }
+        if !put_pieces(rt, &pieces[..count], columns) {
+            return Err(AllocError);
         }
         at = next;
     }
-    at == text.len()
+    Ok(at)
 }
 
 /// Reads the pieces from place `from` on.
@@ -134,33 +145,36 @@ fn read_pieces<H: Threads + Sync>(
     text: &[u8],
     from: usize,
     bytes: usize,
+    layout: &Layout,
     pieces: &mut [TextPiece],
     width: usize,
 )
     requires within { from ≤ length text.now }
-    requires some_column { 0 < width }
-    ensures { All (IsPieceThere text.now width) pieces.new }
+    requires fits { Fits layout.now width }
+    ensures { All (IsPieceThere layout.now text.now width) pieces.new }
 {
     let count = pieces.len().max(1);
     let read = |index: usize, piece: &mut TextPiece|
-        requires { (from ≤ length text.now) × (0 < width) }
-        ensures { IsPieceThere text.entry.now width piece.new }
-    { read_piece(text, from, index, bytes, width, piece) };
+        requires { (from ≤ length text.now) × Fits layout.now width }
+        ensures { IsPieceThere layout.entry.now text.entry.now width piece.new }
+    { read_piece(text, from, index, bytes, layout, width, piece) };
     thread::for_each_mut(rt, pieces, count, &read);
 }
 
-/// Reads the piece of this number of those from `from` on. A piece of another width stays unread.
+/// Reads the piece of this number of those from `from` on: from the first line that begins in it, until a row ends at
+/// its end or after it, or isn't plain. A piece of another width stays unread.
 fn read_piece(
     text: &[u8],
     from: usize,
     index: usize,
     bytes: usize,
+    layout: &Layout,
     width: usize,
     piece: &mut TextPiece,
 )
     requires within { from ≤ length text.now }
-    requires some_column { 0 < width }
-    ensures { IsPieceThere text.now width piece.new }
+    requires fits { Fits layout.now width }
+    ensures { IsPieceThere layout.now text.now width piece.new }
 {
     let start = from
         .saturating_add(index.saturating_mul(bytes))
@@ -172,11 +186,23 @@ fn read_piece(
     };
     let end = start.saturating_add(bytes).min(text.len());
     let to = line_start(text, end.max(first));
-    empty(piece.columns.as_mut_slice());
     piece.from = first;
-    piece.to = to;
-    piece.is_read = piece.columns.len() == width
-        && read_plain_rows(text, first, to, piece.columns.as_mut_slice());
+    piece.is_read = piece.columns.len() == width;
+    if piece.is_read {
+        piece.to = read_anew(text, first, to, layout, piece.columns.as_mut_slice());
+    }
+}
+
+/// Reads rows as `read_text_rows` does, without the names and cells that were there.
+fn read_anew(text: &[u8], from: usize, to: usize, layout: &Layout, columns: &mut [Column]) -> usize
+    requires within { (from ≤ to) × (to ≤ length text.now) }
+    requires fits { Fits layout.now (length columns.old) }
+    ensures read { AreReadBy layout.now (drop from text.now) (drop result text.now)
+        (blanks (length columns.old)) (map named columns.new) }
+    ensures within { result ≤ length text.now }
+{
+    empty(columns);
+    read_text_rows(text, from, to, layout, columns)
 }
 
 /// Takes the names and the cells away, and keeps the room for them.
@@ -202,22 +228,23 @@ fn line_start(text: &[u8], at: usize) -> usize
     text.len()
 }
 
-/// Where the last piece ends, if all were read, the first from `from` on, and each starts where the one before it ends.
-fn end_of_pieces(text: &[u8], from: usize, pieces: &[TextPiece]) -> Option<usize>
+/// How many pieces start where the one before them ends, the first one at `from`, and where the last of these ends.
+fn pieces_in_line(text: &[u8], from: usize, pieces: &[TextPiece]) -> (usize, usize)
     requires within { from ≤ length text.now }
-    ensures read { IfSome result (λ to. (columns : List NamedColumn)
-        → All (IsPieceThere text.now (length columns)) pieces.now
-        → AreRead (drop from text.now) (drop to text.now) columns (append_pieces columns pieces.now)) }
-    ensures ends { IfSome result (λ to. to ≤ length text.now) }
+    ensures read { (layout : Layout) (columns : List NamedColumn)
+        → All (IsPieceThere layout text.now (length columns)) pieces.now
+        → AreReadBy layout (drop from text.now) (drop result.1 text.now)
+        columns (append_pieces columns (take result.0 pieces.now)) }
+    ensures within { (result.0 ≤ length pieces.now) × (result.1 ≤ length text.now) }
 {
     let mut at = from;
-    for piece in pieces {
+    for (count, piece) in pieces.iter().enumerate() {
         if !piece.is_read || piece.from != at || piece.to > text.len() {
-            return None;
+            return (count, at);
         }
         at = piece.to;
     }
-    Some(at)
+    (pieces.len(), at)
 }
 
 /// Puts the cells of all pieces under the columns in their places, and answers whether there was memory for all of
@@ -245,33 +272,6 @@ fn are_whole(columns: &[Column]) -> bool
     ensures { result ≡ list_all (λ c. c.is_whole) columns.now }
 {
     columns.iter().all(|column| column.is_whole)
-}
-
-/// Puts the rows of a whole text under the columns and answers whether all are plain. If not, the columns stay.
-pub(crate) fn put_plain_text<H: Threads + Sync>(
-    rt: &H,
-    text: &[u8],
-    bytes: usize,
-    pieces: &mut [TextPiece],
-    columns: &mut [Column],
-) -> Result<bool, AllocError>
-    requires some_column { 0 < length columns.old }
-    ensures { IfOk result (λ is_plain. MatchBool is_plain
-        (AreRead text.now [] (map named columns.old) (map named columns.new))
-        (map named columns.new ≡ map named columns.old)) }
-{
-    read_pieces(rt, text, 0, bytes, pieces, columns.len());
-    let Some(end) = end_of_pieces(text, 0, pieces) else {
-        return Ok(false);
-    };
-    if end != text.len() {
-        return Ok(false);
-    }
-    if put_pieces(rt, pieces, columns) {
-        Ok(true)
-    } else {
-        Err(AllocError)
-    }
 }
 
 /// Puts the cells of each piece's column in this place under the column.

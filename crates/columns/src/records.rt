@@ -1,17 +1,18 @@
 //! The records of a text, one after another.
 ghost use Rattle.std.specs.Prelude.{ℕ, List, IfOk, OnOk};
 ghost use Rattle.csv.specs.Records.{fields_of};
-ghost use Rattle.columns.specs.Cells.{records_of};
+ghost use Rattle.columns.specs.Layouts.{records_in};
 ghost use Rattle.columns.specs.Records.{GaveNext, IsReading, IsSetUp};
 
 use csv::{ByteRecord, ErrorKind, Reader, ReaderBuilder};
 use std::alloc::{AllocError, Global};
 
-/// A reader of the records of `bytes`. It skips one byte order mark by itself.
-pub(crate) fn reader_of(alloc: Global, bytes: &[u8]) -> Reader<&[u8]>
-    ensures { IsReading result (records_of bytes.now) }
+/// A reader of the records of `bytes`, whose cells this separator parts. It skips one byte order mark by itself.
+pub(crate) fn reader_of(alloc: Global, bytes: &[u8], separator: u8) -> Reader<&[u8]>
+    ensures { IsReading result (records_in separator bytes.now) }
 {
     ReaderBuilder::new()
+        .delimiter(separator)
         .has_headers(false)
         .flexible(true)
         .from_reader(alloc, bytes)

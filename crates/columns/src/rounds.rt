@@ -5,26 +5,26 @@
 //! are held at a time, and one piece of memory takes all of them: memory that is new to the system costs more time than
 //! the reading.
 //!
-//! From the first round on that has a row that isn't plain, all bytes are read whole, and `csv` puts their rows under
-//! the columns.
-ghost use Rattle.std.specs.Prelude.{◌≡◌, ◌⊎◌, ◌++◌, ◌+◌, ◌<◌, ◌≤◌, ◌-◌, [], ℕ, List, true};
+//! A round ends where its last line feed does. If that stands in quotes, the row before it goes to the next round.
+//!
+//! From a row on that isn't plain, all bytes are read whole, and `csv` puts their rows under the columns.
+ghost use Rattle.std.specs.Prelude.{◌≡◌, ◌≢◌, ◌⊎◌, ◌++◌, ◌≤◌, ℕ, List, Option, true};
 ghost use Rattle.std.specs.Prelude.{IfErr, IfOk, OnOk, length, map, take, drop, vec_len};
 ghost use denote.Param.Send.{IsSync};
-ghost use Rattle.std.specs.Bool.{MatchBool};
 ghost use Rattle.std.specs.Io.KnownBytes.{Consumes, IsAtEnd};
 ghost use Rattle.counted_io.specs.CountedRead.{GaveSome, HasGiven};
 ghost use Rattle.counted_io.specs.FailureCounts.{HasRisen};
-ghost use Rattle.columns.specs.Cells.{IsAnswerTo};
 ghost use Rattle.csv.specs.Reading.{strip_bom};
 ghost use Rattle.columns.specs.Fronts.{Goes, IsFront, IsPutBy, IsReadWhole};
-ghost use Rattle.columns.specs.PlainRows.{AreRead};
+ghost use Rattle.columns.specs.Layouts.{AreReadBy, Fits, IsAnswerBy, form_of};
+ghost use Rattle.columns.specs.TableForms.{AbstractForm};
 ghost use Rattle.tables.specs.TableOfColumns.{named};
 
-use crate::by_records::{columns_by_records, put_by_records};
+use crate::by_records::{columns_by_records, put_by_records, put_rest};
 use crate::fault::ColumnFault;
-use crate::header::without_mark;
-use crate::pieces::{Team, TextPiece, empty_pieces, put_plain_text};
-use crate::reading::{plain_header, rows_to_expect};
+use crate::header::{plain_header, rows_to_expect, without_mark};
+use crate::layout::{Layout, TableForm};
+use crate::pieces::{Team, TextPiece, empty_pieces, read_in_turns};
 use crate::round_bytes::{begin_with, last_line_end, read_on};
 use counted_io::CountedRead;
 use std::alloc::{AllocError, Global};
@@ -35,11 +35,11 @@ use tables::{Column, Columns};
 /// How a round ended.
 #[derive(Clone, Copy)]
 enum Round {
-    /// The rows of the round are put, and the reader may have more bytes.
+    /// Rows of the round are put, and the reader may have more bytes.
     Put,
-    /// The rows of the round are put, and the reader has no more bytes.
+    /// Rows of the round are put, and the reader has no more bytes.
     Last,
-    /// The round has a row that isn't plain, and none is put.
+    /// The first row of the round isn't plain, and none is put.
     Other,
 }
 
@@ -63,9 +63,10 @@ pub(crate) fn columns_in_rounds<H: Threads + Sync, R: CountedRead>(
     alloc: Global,
     reader: &mut R,
     bytes: Vec<u8>,
+    form: &TableForm,
 ) -> Result<Columns, ColumnFault>
     ensures answer { (gone : List ℕ) × Consumes (R.remaining reader.old) (R.remaining reader.new) gone
-        × IsAnswerTo (bytes.items ++ gone) result }
+        × IsAnswerBy (form_of form.now) (bytes.items ++ gone) result }
     ensures end { IsReadWhole (R.remaining reader.new) result }
     ensures read { IfErr result (λ fault. fault ≡ ColumnFault.Read
         → HasRisen (R.failures reader.old) (R.failures reader.new)) }
@@ -73,11 +74,11 @@ pub(crate) fn columns_in_rounds<H: Threads + Sync, R: CountedRead>(
 {
     let total = bytes.len().saturating_add(reader.likely_size());
     if bytes.len() >= MARK.len() {
-        if let Some((columns, end)) = plain_header(alloc, &bytes, total) {
-            return columns_after(team, alloc, reader, bytes, end, columns);
+        if let Some((columns, layout, end)) = plain_header(alloc, &bytes, total, form) {
+            return columns_after(team, alloc, reader, bytes, end, &layout, columns);
         }
     }
-    columns_by_records(alloc, reader, bytes)
+    columns_by_records(alloc, reader, bytes, form)
 }
 
 /// The columns of these bytes and of all that the reader has left. The header ends at `end`, after a byte order mark,
@@ -88,20 +89,23 @@ fn columns_after<H: Threads + Sync, R: CountedRead>(
     reader: &mut R,
     bytes: Vec<u8>,
     end: usize,
+    layout: &Layout,
     mut columns: Vec<Column>,
 ) -> Result<Columns, ColumnFault>
     requires within { end ≤ length (strip_bom bytes.items) }
-    requires some_column { 0 < vec_len columns }
+    requires fits { Fits layout.now (vec_len columns) }
     requires long { 3 ≤ vec_len bytes }
-    requires front { IsFront (take end (strip_bom bytes.items)) (map named columns.items) }
     ensures answer { (gone : List ℕ) × Consumes (R.remaining reader.old) (R.remaining reader.new) gone
-        × IsAnswerTo (bytes.items ++ gone) result }
+        × ((form : AbstractForm) → IsFront form layout.now (strip_bom bytes.items)
+        (drop end (strip_bom bytes.items)) (map named columns.items)
+        → IsAnswerBy form (bytes.items ++ gone) result) }
     ensures end { IsReadWhole (R.remaining reader.new) result }
     ensures read { IfErr result (λ fault. fault ≡ ColumnFault.Read
         → HasRisen (R.failures reader.old) (R.failures reader.new)) }
     ensures counts { R.failures reader.old ≤ R.failures reader.new }
 {
-    put_rows_after(team, alloc, reader, bytes, end, columns.as_mut_slice())?;
+    let slice = columns.as_mut_slice();
+    put_rows_after(team, alloc, reader, bytes, end, layout, slice)?;
     Ok(Columns::of(columns))
 }
 
@@ -112,12 +116,13 @@ fn put_rows_after<H: Threads + Sync, R: CountedRead>(
     reader: &mut R,
     bytes: Vec<u8>,
     end: usize,
+    layout: &Layout,
     columns: &mut [Column],
 ) -> Result<(), ColumnFault>
     requires within { end ≤ length (strip_bom bytes.items) }
-    requires some_column { 0 < length columns.old }
-    ensures put { IsPutBy (R.remaining reader.old) (R.remaining reader.new) (drop end (strip_bom bytes.items))
-        (map named columns.old) result (map named columns.new) }
+    requires fits { Fits layout.now (length columns.old) }
+    ensures put { IsPutBy layout.now (R.remaining reader.old) (R.remaining reader.new)
+        (drop end (strip_bom bytes.items)) (map named columns.old) result (map named columns.new) }
     ensures end { IsReadWhole (R.remaining reader.new) result }
     ensures read { IfErr result (λ fault. fault ≡ ColumnFault.Read
         → HasRisen (R.failures reader.old) (R.failures reader.new)) }
@@ -134,9 +139,9 @@ fn put_rows_after<H: Threads + Sync, R: CountedRead>(
                 piece: team.piece,
                 pieces,
             };
-            put_rounds(team.rt, alloc, reader, &mut rounds, columns)
+            put_rounds(team.rt, alloc, reader, layout, &mut rounds, columns)
         }
-        Err(AllocError) => put_by_records(alloc, reader, first, columns),
+        Err(AllocError) => put_by_records(alloc, reader, first, layout, columns),
     }
 }
 
@@ -163,11 +168,12 @@ fn put_rounds<H: Threads + Sync, R: CountedRead>(
     rt: &H,
     alloc: Global,
     reader: &mut R,
+    layout: &Layout,
     rounds: &mut Rounds,
     columns: &mut [Column],
 ) -> Result<(), ColumnFault>
-    requires some_column { 0 < length columns.old }
-    ensures put { IsPutBy (R.remaining reader.old) (R.remaining reader.new) rounds.old.bytes.items
+    requires fits { Fits layout.now (length columns.old) }
+    ensures put { IsPutBy layout.now (R.remaining reader.old) (R.remaining reader.new) rounds.old.bytes.items
         (map named columns.old) result (map named columns.new) }
     ensures end { IsReadWhole (R.remaining reader.new) result }
     ensures read { IfErr result (λ fault. fault ≡ ColumnFault.Read
@@ -175,25 +181,27 @@ fn put_rounds<H: Threads + Sync, R: CountedRead>(
     ensures counts { R.failures reader.old ≤ R.failures reader.new }
 {
     for _ in 0..u64::MAX {
-        match next_round(rt, reader, rounds, columns)? {
+        match next_round(rt, reader, layout, rounds, columns)? {
             Round::Put => {}
-            Round::Last => return put_last(rt, alloc, reader, rounds, columns),
-            Round::Other => return put_by_records(alloc, reader, &rounds.bytes, columns),
+            Round::Last => return put_last(rt, alloc, layout, rounds, columns),
+            Round::Other => return put_by_records(alloc, reader, &rounds.bytes, layout, columns),
         }
     }
     // No file is that long.
     Err(ColumnFault::NoMemory)
 }
 
-/// Puts the rows of the whole lines that were read under the columns, and reads the next bytes meanwhile.
+/// Puts the rows of the whole lines that were read under the columns, up to one that isn't plain, and reads the next
+/// bytes meanwhile.
 fn next_round<H: Threads + Sync, R: CountedRead>(
     rt: &H,
     reader: &mut R,
+    layout: &Layout,
     rounds: &mut Rounds,
     columns: &mut [Column],
 ) -> Result<Round, ColumnFault>
-    requires some_column { 0 < length columns.old }
-    ensures goes { OnOk result (Goes (R.remaining reader.old)
+    requires fits { Fits layout.now (length columns.old) }
+    ensures goes { OnOk result (Goes layout.now (R.remaining reader.old)
         (R.remaining reader.new) rounds.old.bytes.items rounds.new.bytes.items
         (map named columns.old) (map named columns.new)) }
     ensures end { IfOk result (λ round. round ≡ Round.Last → IsAtEnd (R.remaining reader.new)) }
@@ -208,15 +216,40 @@ fn next_round<H: Threads + Sync, R: CountedRead>(
         return Ok(Round::Other);
     }
     begin_with(&mut rounds.spare, &rounds.bytes[end..])?;
-    let (put, read) = put_and_read(rt, reader, rounds, end, columns);
+    let (put, read) = put_and_read(rt, reader, layout, rounds, end, columns);
     let is_end = read?;
-    if !put? {
+    let put_to = put?;
+    go_on_from(rounds, put_to, end)?;
+    Ok(round_of(put_to, is_end))
+}
+
+/// How a round ended whose rows before `put_to` are put.
+fn round_of(put_to: usize, is_end: bool) -> Round
+    ensures { result ≡ Round.Last → is_end ≡ true }
+{
+    if put_to == 0 {
+        Round::Other
+    } else if is_end {
+        Round::Last
+    } else {
+        Round::Put
+    }
+}
+
+/// Begins the next round at `put_to`, which isn't after `end`: with what is left of the lines before `end`, and the
+/// bytes that were read meanwhile.
+fn go_on_from(rounds: &mut Rounds, put_to: usize, end: usize) -> Result<(), AllocError>
+    requires within { (put_to ≤ end) × (end ≤ vec_len rounds.old.bytes) }
+    ensures { OnOk result
+        (rounds.new.bytes.items ≡ drop put_to (take end rounds.old.bytes.items ++ rounds.old.spare.items)) }
+{
+    if put_to < end {
         rounds.bytes.truncate(end);
         rounds.bytes.extend_from_slice(&rounds.spare)?;
-        return Ok(Round::Other);
+        begin_with(&mut rounds.spare, &rounds.bytes[put_to..])?;
     }
     mem::swap(&mut rounds.bytes, &mut rounds.spare);
-    Ok(if is_end { Round::Last } else { Round::Put })
+    Ok(())
 }
 
 /// Puts the rows of the whole lines before `end` under the columns, on threads, and reads on into `spare` on this one;
@@ -224,15 +257,16 @@ fn next_round<H: Threads + Sync, R: CountedRead>(
 fn put_and_read<H: Threads + Sync, R: CountedRead>(
     rt: &H,
     reader: &mut R,
+    layout: &Layout,
     rounds: &mut Rounds,
     end: usize,
     columns: &mut [Column],
-) -> (Result<bool, AllocError>, Result<bool, ColumnFault>)
+) -> (Result<usize, AllocError>, Result<bool, ColumnFault>)
     requires within { end ≤ vec_len rounds.old.bytes }
-    requires some_column { 0 < length columns.old }
-    ensures put { IfOk result.0 (λ is_plain. MatchBool is_plain
-        (AreRead (take end rounds.old.bytes.items) [] (map named columns.old) (map named columns.new))
-        (map named columns.new ≡ map named columns.old)) }
+    requires fits { Fits layout.now (length columns.old) }
+    ensures put { IfOk result.0 (λ put_to. AreReadBy layout.now (take end rounds.old.bytes.items)
+        (drop put_to (take end rounds.old.bytes.items)) (map named columns.old) (map named columns.new)) }
+    ensures within { IfOk result.0 (λ put_to. put_to ≤ end) }
     ensures same { rounds.new.bytes ≡ rounds.old.bytes }
     ensures bytes { OnOk result.1
         (HasGiven (R.remaining reader.old) (R.remaining reader.new) rounds.old.spare.items rounds.new.spare.items) }
@@ -249,12 +283,12 @@ fn put_and_read<H: Threads + Sync, R: CountedRead>(
     let spare = &mut rounds.spare;
     let limit = rounds.limit;
     let is_alone = pieces.len() < 2;
-    let mut put = || -> Result<bool, AllocError>
-        requires { IsSync H.row × (0 < length columns.now) }
-        ensures { IfOk result (λ is_plain. MatchBool is_plain
-            (AreRead text.entry.now [] (map named columns.entry.now) (map named columns.exit.now))
-            (map named columns.exit.now ≡ map named columns.entry.now)) }
-    { put_plain_text(rt, text, piece, pieces, columns) };
+    let mut put = || -> Result<usize, AllocError>
+        requires { IsSync H.row × Fits layout.now (length columns.now) }
+        ensures read { IfOk result (λ put_to. AreReadBy layout.entry.now text.entry.now (drop put_to text.entry.now)
+            (map named columns.entry.now) (map named columns.exit.now)) }
+        ensures within { IfOk result (λ put_to. put_to ≤ length text.entry.now) }
+    { read_in_turns(rt, text, 0, piece, layout, pieces, columns) };
     let mut read = || -> Result<bool, ColumnFault>
         ensures bytes { OnOk result (HasGiven (R.remaining reader.entry.now)
             (R.remaining reader.exit.now) spare.entry.now.items spare.exit.now.items) }
@@ -272,21 +306,17 @@ fn put_and_read<H: Threads + Sync, R: CountedRead>(
 }
 
 /// Puts the rows of the last round under the columns, after which the reader has no bytes.
-fn put_last<H: Threads + Sync, R: CountedRead>(
+fn put_last<H: Threads + Sync>(
     rt: &H,
     alloc: Global,
-    reader: &mut R,
+    layout: &Layout,
     rounds: &mut Rounds,
     columns: &mut [Column],
 ) -> Result<(), ColumnFault>
-    requires end { IsAtEnd (R.remaining reader.old) }
-    requires some_column { 0 < length columns.old }
-    ensures put { IsPutBy (R.remaining reader.old) (R.remaining reader.new) rounds.old.bytes.items
+    requires fits { Fits layout.now (length columns.old) }
+    ensures put { (left : Option (List ℕ)) → IsPutBy layout.now left left rounds.old.bytes.items
         (map named columns.old) result (map named columns.new) }
-    ensures end { IsReadWhole (R.remaining reader.new) result }
-    ensures read { IfErr result (λ fault. fault ≡ ColumnFault.Read
-        → HasRisen (R.failures reader.old) (R.failures reader.new)) }
-    ensures counts { R.failures reader.old ≤ R.failures reader.new }
+    ensures unread { IfErr result (λ fault. fault ≢ ColumnFault.Read) }
 {
     let Rounds {
         bytes,
@@ -294,10 +324,9 @@ fn put_last<H: Threads + Sync, R: CountedRead>(
         pieces,
         ..
     } = rounds;
-    if put_plain_text(rt, bytes, *piece, pieces.as_mut_slice(), columns)? {
-        return Ok(());
-    }
-    put_by_records(alloc, reader, bytes, columns)
+    let pieces = pieces.as_mut_slice();
+    let end = read_in_turns(rt, bytes, 0, *piece, layout, pieces, columns)?;
+    put_rest(alloc, &bytes[end..], layout, columns)
 }
 
 /// A byte order mark. `csv` skips one at the start of a text.

@@ -4,7 +4,6 @@ use Rattle.std.specs.Borrow.{MutBor}
 use Rattle.std.specs.Io.KnownBytes.{IsAtEnd, Keeps}
 use Rattle.std.proofs.Common.{inl, inr}
 use Rattle.columns.specs.declared.fault.ColumnFault.{ColumnFault}
-use Rattle.columns.specs.declared.fault.ColumnFault.TheVariants as column
 use Rattle.tables.specs.Table.{NamedColumn}
 use Rattle.run_settings.specs.Asked.{Asked}
 use Rattle.counted_io.specs.FailureCounts.{HasRisen}
@@ -56,15 +55,13 @@ pub record CountedBytes : Type 0 where
   pub bytes : Option (List ℕ)
   pub failures : ℕ
 
--- what a run leaves of its readers and its writer, after this answer: after a report the files are read up; after the
--- refusal of a column file the job file is as it was; if no write failed nothing was written; and a failed read or
--- write was counted
-pub record IsLeft {C X : Type 0} (remaining : C → Option (List ℕ)) (failures : C → ℕ) (columns : Option (MutBor C)) (columns_after : Unit {0} ⊎ ((MutBor C × Unit {0}) ⊎ ⊥)) (jobs jobs_after writer writer_after : CountedBytes) (answer : Result X EngineFault) : Type 0 where
+-- what a run leaves of the reader of jobs and of its writer, after this answer: after a report the job file is read up;
+-- after the refusal of a column file it is as it was; if no write failed nothing was written; and a failed read or write
+-- was counted
+pub record IsLeft {X : Type 0} (jobs jobs_after writer writer_after : CountedBytes) (answer : Result X EngineFault) : Type 0 where
   pub read_up : OnOk answer (IsAtEnd jobs_after.bytes)
-  pub columns_read_up : OnOk answer (IsAtEndThere remaining columns columns_after)
   pub unread : IfErr answer (λ fault. (cause : ColumnFault) → fault ≡ Columns cause → (jobs_after.bytes ≡ jobs.bytes) × (jobs_after.failures ≡ jobs.failures))
   pub unwritten : IfErr answer (λ fault. ((n : ℕ) → fault ≢ Write n) → Keeps writer.bytes writer_after.bytes)
   pub untouched : IfErr answer (λ fault. ((n : ℕ) → fault ≢ Write n) → writer_after.failures ≡ writer.failures)
-  pub columns_failed : IfErr answer (λ fault. fault ≡ Columns column.Read → HasRisenThere failures columns columns_after)
   pub read_failed : IfErr answer (λ fault. fault ≡ JobsRead → HasRisen jobs.failures jobs_after.failures)
   pub write_failed : IfErr answer (λ fault. (n : ℕ) → fault ≡ Write n → HasRisen writer.failures writer_after.failures)

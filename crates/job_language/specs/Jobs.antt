@@ -23,11 +23,14 @@ pub data AbstractPlainSource : Type 0 where
   values : List ℤ → AbstractPlainSource
   result : List ℕ → AbstractPlainSource
 
--- an abstract stage of a job; a prefix has the positions from the first number up to, not with, the second, or all
+-- an abstract stage of a job; a prefix has the positions from the first number up to, not with, the second, or all; a
+-- `distinct` has the values that came before
 pub data AbstractJobStage : Type 0 where
   item : AbstractStage → AbstractJobStage
   slice : AbstractSlice → AbstractJobStage
   prefix : Option (ℕ × ℕ) → Op → AbstractJobStage
+  sorted : AbstractJobStage
+  distinct : List ℤ → AbstractJobStage
 
 -- an abstract terminal
 pub data AbstractTerminal : Type 0 where
@@ -85,6 +88,8 @@ abbrev pub job_stage_of : JobStage → AbstractJobStage
 job_stage_of (stage.Item g) = item (stage_of g)
 job_stage_of (stage.Slice d) = slice (slice_of d)
 job_stage_of (stage.Prefix positions f) = prefix positions f
+job_stage_of stage.Sorted = sorted
+job_stage_of stage.Distinct = distinct []
 
 -- helper: each of several stages
 abbrev pub job_stages_of : List JobStage → List AbstractJobStage

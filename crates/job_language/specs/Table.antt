@@ -39,6 +39,8 @@ name_of op.Skip = codes "skip"
 name_of op.TakeWhile = codes "takeWhile"
 name_of op.DropWhile = codes "dropWhile"
 name_of op.Prefix = codes "prefix"
+name_of op.Sorted = codes "sorted"
+name_of op.Distinct = codes "distinct"
 name_of op.Sum = codes "sum"
 name_of op.Count = codes "count"
 name_of op.Min = codes "min"
@@ -56,8 +58,9 @@ name_of op.OnFault = codes "onFault"
 abbrev pub operations : List Operation
 operations =
     op.Range ∷ op.RangeClosed ∷ op.Of ∷ op.Empty ∷ op.Column ∷ op.Result ∷ op.Concat ∷ op.Map ∷ op.Filter
-    ∷ op.FlatMap ∷ op.Limit ∷ op.Skip ∷ op.TakeWhile ∷ op.DropWhile ∷ op.Prefix ∷ op.Sum ∷ op.Count ∷ op.Min ∷ op.Max
-    ∷ op.FindFirst ∷ op.ToArray ∷ op.Reduce ∷ op.AnyMatch ∷ op.AllMatch ∷ op.NoneMatch ∷ op.SumExact ∷ op.OnFault ∷ []
+    ∷ op.FlatMap ∷ op.Limit ∷ op.Skip ∷ op.TakeWhile ∷ op.DropWhile ∷ op.Prefix ∷ op.Sorted ∷ op.Distinct ∷ op.Sum
+    ∷ op.Count ∷ op.Min ∷ op.Max ∷ op.FindFirst ∷ op.ToArray ∷ op.Reduce ∷ op.AnyMatch ∷ op.AllMatch ∷ op.NoneMatch
+    ∷ op.SumExact ∷ op.OnFault ∷ []
 
 -- the first of these operations with this name
 abbrev pub operation_among : List Operation → List ℕ → Option Operation
@@ -84,6 +87,8 @@ row op.Skip = as_stage (of_count (λ k. job.slice (skip k)))
 row op.TakeWhile = as_stage (of_test (λ p. job.slice (take_while p)))
 row op.DropWhile = as_stage (of_test (λ p. job.slice (drop_while p)))
 row op.Prefix = as_stage (of_positions job.prefix)
+row op.Sorted = as_stage (of_nothing job.sorted)
+row op.Distinct = as_stage (of_nothing (job.distinct []))
 row op.Sum = as_terminal (of_nothing job.sum)
 row op.Count = as_terminal (of_nothing job.count)
 row op.Min = as_terminal (of_nothing job.min)
@@ -126,6 +131,8 @@ version_of_operation op.AllMatch = 1
 version_of_operation op.NoneMatch = 1
 version_of_operation op.OnFault = 2
 version_of_operation op.SumExact = 3
+version_of_operation op.Sorted = 3
+version_of_operation op.Distinct = 3
 
 -- where an operation stands in a job
 abbrev pub role_of : Operation → Role

@@ -36,6 +36,10 @@ pub enum JobStage {
         positions: Option<(u64, u64)>,
         op: Op,
     },
+    /// `sorted()`: the items in the order of their values.
+    Sorted,
+    /// `distinct()`: the first of items with one value.
+    Distinct,
 }
 
 /// A job: its name, where its items come from, what they pass through, what is asked of them, and what is

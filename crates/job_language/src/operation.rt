@@ -23,6 +23,8 @@ pub enum Operation {
     TakeWhile,
     DropWhile,
     Prefix,
+    Sorted,
+    Distinct,
     Sum,
     Count,
     Min,
@@ -100,7 +102,7 @@ pub enum Params {
 }
 
 /// All operations.
-const OPERATIONS: [Operation; 27] = [
+const OPERATIONS: [Operation; 29] = [
     Operation::Range,
     Operation::RangeClosed,
     Operation::Of,
@@ -116,6 +118,8 @@ const OPERATIONS: [Operation; 27] = [
     Operation::TakeWhile,
     Operation::DropWhile,
     Operation::Prefix,
+    Operation::Sorted,
+    Operation::Distinct,
     Operation::Sum,
     Operation::Count,
     Operation::Min,

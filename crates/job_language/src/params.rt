@@ -12,7 +12,7 @@ pub fn version_of_operation(operation: Operation) -> u8
 {
     match operation {
         Operation::OnFault => 2,
-        Operation::SumExact => 3,
+        Operation::SumExact | Operation::Sorted | Operation::Distinct => 3,
         _ => 1,
     }
 }

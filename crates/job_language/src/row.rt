@@ -51,6 +51,8 @@ pub(crate) fn row(operation: Operation) -> (&'static str, Role, Params)
         Operation::TakeWhile => ("takeWhile", Role::Stage, Params::Test),
         Operation::DropWhile => ("dropWhile", Role::Stage, Params::Test),
         Operation::Prefix => ("prefix", Role::Stage, Params::Positions),
+        Operation::Sorted => ("sorted", Role::Stage, Params::Nothing),
+        Operation::Distinct => ("distinct", Role::Stage, Params::Nothing),
         Operation::Sum => ("sum", Role::Terminal, Params::Nothing),
         Operation::Count => ("count", Role::Terminal, Params::Nothing),
         Operation::Min => ("min", Role::Terminal, Params::Nothing),
@@ -74,6 +76,8 @@ fn of_nothing<'c>(operation: Operation, numbers: Vec<i64>) -> Result<CallPart<'c
 {
     let terminal = match operation {
         Operation::Empty => return Ok(CallPart::Source(PlainSource::Values(numbers))),
+        Operation::Sorted => return Ok(CallPart::Stage(JobStage::Sorted)),
+        Operation::Distinct => return Ok(CallPart::Stage(JobStage::Distinct)),
         Operation::Sum => Terminal::Sum,
         Operation::Count => Terminal::Count,
         Operation::Min => Terminal::Min,

@@ -1,5 +1,5 @@
 -- The walk of one thread, item by item, gives what the stages give one after the other.
-use Rattle.std.proofs.Common.{◌≡◌, ℕ, zero, suc, ◌-◌, ◌==◌, Bool, true, false, nat_lt, if◌then◌else◌, is_some, List, [], ◌∷◌, length, take, None, refl, sym, ap, ◌∙◌, arith}
+use Rattle.std.proofs.Common.{◌≡◌, ℕ, zero, suc, ◌-◌, ◌==◌, Bool, true, false, nat_lt, if◌then◌else◌, is_some, List, [], ◌∷◌, ◌++◌, length, take, None, refl, sym, ap, ◌∙◌, arith}
 use Rattle.std.specs.Prelude.{◌||◌}
 use Rattle.std.specs.Option.{option_or}
 use Rattle.std.proofs.lemmas.Bool.{eqb-true}
@@ -15,10 +15,13 @@ use Rattle.trace.proofs.JoinLemmas.{each_append}
 use Rattle.slice_ops.specs.Slices.{AbstractSlice, limit, skip, take_while, drop_while, front_ends, limited, skipped, taken, dropped, sliced}
 use Rattle.slice_ops.proofs.JoinLemmas.{at_least, is_above, limit_stays, limited_few}
 use Rattle.slice_ops.proofs.RestLemmas.{closed, then_closed, limit_goes_on, skip_goes_on, take_closes, take_goes_on, drop_opens, drop_goes_on}
+use Rattle.sort_ops.specs.Firsts.{distinct_walk}
+use Rattle.sort_ops.specs.Parts.{values_in}
+use Rattle.sort_ops.proofs.FirstLemmas.{distinct_cut}
 use Rattle.find_ops.specs.Finds.{Find, decision_of}
 use Rattle.find_ops.proofs.DecisionLemmas.{decision_joined}
-use Rattle.job_language.specs.Jobs.{AbstractJobStage, item, slice, prefix}
-use Rattle.job_meaning.specs.ItemWalks.{HasNoPrefix, alone, decided_in, is_over, slice_after, stages_after, walked}
+use Rattle.job_language.specs.Jobs.{AbstractJobStage, item, slice, prefix, sorted, distinct}
+use Rattle.job_meaning.specs.ItemWalks.{HasNoBarrier, alone, decided_in, is_over, slice_after, stages_after, walked}
 use Rattle.job_meaning.specs.Walks.{after_stages}
 
 -- ---- one slice over a walk and what comes after it
@@ -48,7 +51,7 @@ slice_cut (drop_while p) n env a later = drop_cut p n env a later (nat_lt (lengt
 
 -- ---- all stages over a walk and what comes after it
 
-stages_cut : (n : ℕ) (gs : List AbstractJobStage) (env : Numbers) (a later : Trace) → HasNoPrefix gs
+stages_cut : (n : ℕ) (gs : List AbstractJobStage) (env : Numbers) (a later : Trace) → HasNoBarrier gs
     → after_stages n gs env (append a later) ≡ append (after_stages n gs env a) (after_stages n (stages_after n gs env a) env later)
 stages_cut n [] env a later good = refl
 stages_cut n (item g ∷ gs) env a later good =
@@ -56,12 +59,18 @@ stages_cut n (item g ∷ gs) env a later good =
 stages_cut n (slice d ∷ gs) env a later good =
     ap (after_stages (suc n) gs env) (slice_cut d n env a later) ∙ stages_cut (suc n) gs env (sliced d n env a) (sliced (slice_after d n env a) n env later) good
 stages_cut n (prefix r f ∷ gs) env a later good = absurd good
+stages_cut n (sorted ∷ gs) env a later good = absurd good
+stages_cut n (distinct seen ∷ gs) env a later good =
+    ap (after_stages (suc n) gs env) (distinct_cut seen a later)
+    ∙ stages_cut (suc n) gs env (distinct_walk seen a) (distinct_walk (values_in a.items ++ seen) later) good
 
-good_after : (n : ℕ) (gs : List AbstractJobStage) (env : Numbers) (t : Trace) → HasNoPrefix gs → HasNoPrefix (stages_after n gs env t)
+good_after : (n : ℕ) (gs : List AbstractJobStage) (env : Numbers) (t : Trace) → HasNoBarrier gs → HasNoBarrier (stages_after n gs env t)
 good_after n [] env t good = tt
 good_after n (item g ∷ gs) env t good = good_after (suc n) gs env (through n g env t) good
 good_after n (slice d ∷ gs) env t good = good_after (suc n) gs env (sliced d n env t) good
 good_after n (prefix r f ∷ gs) env t good = absurd good
+good_after n (sorted ∷ gs) env t good = absurd good
+good_after n (distinct seen ∷ gs) env t good = good_after (suc n) gs env (distinct_walk seen t) good
 
 -- ---- after a slice has ended
 
@@ -80,19 +89,21 @@ slice_of_nothing (skip k) n env = none_dropped k
 slice_of_nothing (take_while p) n env = refl
 slice_of_nothing (drop_while p) n env = refl
 
-stages_of_nothing : (n : ℕ) (gs : List AbstractJobStage) (env : Numbers) → HasNoPrefix gs → after_stages n gs env nothing ≡ nothing
+stages_of_nothing : (n : ℕ) (gs : List AbstractJobStage) (env : Numbers) → HasNoBarrier gs → after_stages n gs env nothing ≡ nothing
 stages_of_nothing n [] env good = refl
 stages_of_nothing n (item g ∷ gs) env good = stages_of_nothing (suc n) gs env good
 stages_of_nothing n (slice d ∷ gs) env good = ap (after_stages (suc n) gs env) (slice_of_nothing d n env) ∙ stages_of_nothing (suc n) gs env good
 stages_of_nothing n (prefix r f ∷ gs) env good = absurd good
+stages_of_nothing n (sorted ∷ gs) env good = absurd good
+stages_of_nothing n (distinct seen ∷ gs) env good = stages_of_nothing (suc n) gs env good
 
-limit_over : (k n : ℕ) (gs : List AbstractJobStage) (env : Numbers) (t : Trace) → HasNoPrefix gs → (is_over gs ≡ true → after_stages n gs env (limited k t) ≡ nothing)
+limit_over : (k n : ℕ) (gs : List AbstractJobStage) (env : Numbers) (t : Trace) → HasNoBarrier gs → (is_over gs ≡ true → after_stages n gs env (limited k t) ≡ nothing)
     → (b : Bool) → (k == 0) ≡ b → (b || is_over gs) ≡ true → after_stages n gs env (limited k t) ≡ nothing
 limit_over k n gs env t good later true h over =
     ap (λ (j : ℕ). after_stages n gs env (limited j t)) (eqb-true k 0 h) ∙ ap (after_stages n gs env) (closed t) ∙ stages_of_nothing n gs env good
 limit_over k n gs env t good later false h over = later over
 
-pub over_nothing : (n : ℕ) (gs : List AbstractJobStage) (env : Numbers) (t : Trace) → HasNoPrefix gs → is_over gs ≡ true → after_stages n gs env t ≡ nothing
+pub over_nothing : (n : ℕ) (gs : List AbstractJobStage) (env : Numbers) (t : Trace) → HasNoBarrier gs → is_over gs ≡ true → after_stages n gs env t ≡ nothing
 over_nothing n [] env t good over = absurd (let e : false ≡ true = over in cc)
 over_nothing n (item g ∷ gs) env t good over = over_nothing (suc n) gs env (through n g env t) good over
 over_nothing n (slice (limit k) ∷ gs) env t good over = limit_over k (suc n) gs env t good (over_nothing (suc n) gs env (limited k t) good) (k == 0) refl over
@@ -100,21 +111,23 @@ over_nothing n (slice (skip k) ∷ gs) env t good over = over_nothing (suc n) gs
 over_nothing n (slice (take_while p) ∷ gs) env t good over = over_nothing (suc n) gs env (taken p n env t) good over
 over_nothing n (slice (drop_while p) ∷ gs) env t good over = over_nothing (suc n) gs env (dropped p n env t) good over
 over_nothing n (prefix r f ∷ gs) env t good over = absurd good
+over_nothing n (sorted ∷ gs) env t good over = absurd good
+over_nothing n (distinct seen ∷ gs) env t good over = over_nothing (suc n) gs env (distinct_walk seen t) good over
 
 -- ---- the walk
 
-walk_step : (n : ℕ) (gs : List AbstractJobStage) (env : Numbers) (x : Item) (xs : List Item) (e : End) (later : Trace) → HasNoPrefix gs → after_stages n (stages_after n gs env (alone x)) env (trace xs e) ≡ later
+walk_step : (n : ℕ) (gs : List AbstractJobStage) (env : Numbers) (x : Item) (xs : List Item) (e : End) (later : Trace) → HasNoBarrier gs → after_stages n (stages_after n gs env (alone x)) env (trace xs e) ≡ later
     → (b : Bool) → is_over gs ≡ b → after_stages n gs env (trace (x ∷ xs) e) ≡ (if b then nothing else append (after_stages n gs env (alone x)) later)
 walk_step n gs env x xs e later good is true h = over_nothing n gs env (trace (x ∷ xs) e) good h
 walk_step n gs env x xs e later good is false h = stages_cut n gs env (alone x) (trace xs e) good ∙ ap (append (after_stages n gs env (alone x))) is
 
-pub by_items : (n : ℕ) (gs : List AbstractJobStage) (env : Numbers) (xs : List Item) (e : End) → HasNoPrefix gs → after_stages n gs env (trace xs e) ≡ walked n gs env xs e
+pub by_items : (n : ℕ) (gs : List AbstractJobStage) (env : Numbers) (xs : List Item) (e : End) → HasNoBarrier gs → after_stages n gs env (trace xs e) ≡ walked n gs env xs e
 by_items n gs env [] e good = refl
 by_items n gs env (x ∷ xs) e good =
     let next = stages_after n gs env (alone x) in
     walk_step n gs env x xs e (walked n next env xs e) good (by_items n next env xs e (good_after n gs env (alone x) good)) (is_over gs) refl
 
-pub decided_by_items : (d : Find) (m n : ℕ) (gs : List AbstractJobStage) (env : Numbers) (xs : List Item) (e : End) → HasNoPrefix gs → decision_of d m env (after_stages n gs env (trace xs e)) ≡ decided_in d m n gs env xs e
+pub decided_by_items : (d : Find) (m n : ℕ) (gs : List AbstractJobStage) (env : Numbers) (xs : List Item) (e : End) → HasNoBarrier gs → decision_of d m env (after_stages n gs env (trace xs e)) ≡ decided_in d m n gs env xs e
 decided_by_items d m n gs env [] e good = refl
 decided_by_items d m n gs env (x ∷ xs) e good =
     let next = stages_after n gs env (alone x) in

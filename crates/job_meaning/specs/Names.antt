@@ -5,7 +5,7 @@ use Rattle.lambda_values.specs.References.{long_names, truth_names, inner_names}
 use Rattle.trace.specs.Stages.{AbstractStage, map, filter, flat_map}
 use Rattle.slice_ops.specs.Slices.{AbstractSlice, limit, skip, take_while, drop_while}
 use Rattle.find_ops.specs.Finds.{Find, first, any_match, all_match, none_match}
-use Rattle.job_language.specs.Jobs.{AbstractPlainSource, range, range_closed, values, result, AbstractJobStage, item, slice, prefix, AbstractTerminal, find, AbstractJob}
+use Rattle.job_language.specs.Jobs.{AbstractPlainSource, range, range_closed, values, result, AbstractJobStage, item, slice, prefix, sorted, distinct, AbstractTerminal, find, AbstractJob}
 
 -- helper: the names that stand in a stage that looks at one item at a time, in a stage that looks at a whole walk, in a
 -- find
@@ -40,6 +40,8 @@ abbrev pub job_stage_names : AbstractJobStage → List (List ℕ)
 job_stage_names (item g) = stage_names g
 job_stage_names (slice d) = slice_names d
 job_stage_names (prefix r f) = []
+job_stage_names sorted = []
+job_stage_names (distinct seen) = []
 
 abbrev pub terminal_names : AbstractTerminal → List (List ℕ)
 terminal_names d = some_find_names (find_in d)

@@ -16,10 +16,12 @@ use Rattle.reduce_ops.specs.Folds.{fold_from, fold_items, total}
 use Rattle.reduce_ops.specs.Operators.{value_of}
 use Rattle.slice_ops.specs.Slices.{sliced}
 use Rattle.prefix_scan.specs.Prefixes.{prefixed}
+use Rattle.sort_ops.specs.Firsts.{distinct_walk}
+use Rattle.sort_ops.specs.Orders.{sorted_walk}
 use Rattle.find_ops.specs.Finds.{first, any_match, all_match, none_match, find_answer}
 use Rattle.find_ops.specs.declared.find_part.Found.{Found}
 use Rattle.find_ops.specs.declared.find_part.Found.TheVariants as found
-use Rattle.job_language.specs.Jobs.{AbstractPlainSource, range, range_closed, values, result, AbstractJobStage, item, slice, prefix, AbstractTerminal, sum, count, min, max, to_array, reduce, reduce_from, find, exact_sum, AbstractJob}
+use Rattle.job_language.specs.Jobs.{AbstractPlainSource, range, range_closed, values, result, AbstractJobStage, item, slice, prefix, sorted, distinct, AbstractTerminal, sum, count, min, max, to_array, reduce, reduce_from, find, exact_sum, AbstractJob}
 use Rattle.job_meaning.specs.declared.answer.Answer.{Answer}
 use Rattle.job_meaning.specs.declared.answer.Answer.TheVariants as answer
 
@@ -46,6 +48,8 @@ abbrev pub after_stage : ℕ → AbstractJobStage → Numbers → Trace → Trac
 after_stage n (item g) env t = through n g env t
 after_stage n (slice d) env t = sliced d n env t
 after_stage n (prefix r f) env t = prefixed (value_of f) r n t
+after_stage n sorted env t = sorted_walk t
+after_stage n (distinct seen) env t = distinct_walk seen t
 
 -- the stages in order of writing, the first one with this number; each takes what the one before it gives
 abbrev pub after_stages : ℕ → List AbstractJobStage → Numbers → Trace → Trace

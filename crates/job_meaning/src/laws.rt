@@ -7,19 +7,20 @@ ghost use Rattle.trace.specs.declared.item.End.{End as meant_end};
 ghost use Rattle.trace.specs.Trace.{Trace, nothing, trace};
 ghost use Rattle.find_ops.specs.Finds.{Find, decision_of};
 ghost use Rattle.job_language.specs.Jobs.{AbstractJobStage};
-ghost use Rattle.job_meaning.specs.ItemWalks.{HasNoPrefix, decided_in, is_over, walked};
+ghost use Rattle.job_meaning.specs.ItemWalks.{HasNoBarrier, decided_in, is_over, walked};
 ghost use Rattle.job_meaning.specs.Walks.{after_stages};
 
 /// One thread that takes each item through all stages before the next one, and asks for no item after a slice has
 /// ended, meets the items and the fault that the stages give one after the other. With a find or a match at the end it
-/// asks for no item after the one that decides. A `prefix` looks at a whole walk, so the stages have none.
+/// asks for no item after the one that decides. A `prefix` or a `sorted` looks at a whole walk, so the
+/// stages have none.
 pub fn walks_go_item_by_item()
     ensures walk { (n : ℕ) (gs : List AbstractJobStage) (env : Numbers) (xs : List meant_item) (e : meant_end)
-        → HasNoPrefix gs
+        → HasNoBarrier gs
         → after_stages n gs env (trace xs e) ≡ walked n gs env xs e }
     ensures find { (d : Find) (m n : ℕ) (gs : List AbstractJobStage) (env : Numbers) (xs : List meant_item)
-        (e : meant_end) → HasNoPrefix gs
+        (e : meant_end) → HasNoBarrier gs
         → decision_of d m env (after_stages n gs env (trace xs e)) ≡ decided_in d m n gs env xs e }
-    ensures over { (n : ℕ) (gs : List AbstractJobStage) (env : Numbers) (t : Trace) → HasNoPrefix gs → is_over gs ≡ true
-        → after_stages n gs env t ≡ nothing }
+    ensures over { (n : ℕ) (gs : List AbstractJobStage) (env : Numbers) (t : Trace) → HasNoBarrier gs
+        → is_over gs ≡ true → after_stages n gs env t ≡ nothing }
 {}

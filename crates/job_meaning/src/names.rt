@@ -43,7 +43,7 @@ fn push_stage(alloc: Global, stage: &JobStage, names: &mut Vec<Bytes>) -> Result
     match stage {
         JobStage::Item(stage) => push_item_stage(alloc, stage, names),
         JobStage::Slice(slice) => push_slice(alloc, slice, names),
-        JobStage::Prefix { .. } => Ok(()),
+        JobStage::Prefix { .. } | JobStage::Sorted | JobStage::Distinct => Ok(()),
     }
 }
 

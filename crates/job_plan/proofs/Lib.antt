@@ -2,6 +2,7 @@
 pub mod CountLemmas
 pub mod EnoughLemmas
 pub mod FrontLemmas
+pub mod KeptLemmas
 pub mod LentLemmas
 pub mod LookLemmas
 pub mod MeaningLemmas

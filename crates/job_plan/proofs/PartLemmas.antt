@@ -16,6 +16,7 @@ use Rattle.reduce_ops.specs.ExactSums.{exact_sum as exactly_summed}
 use Rattle.reduce_ops.specs.Folds.{ones, unless_faulted}
 use Rattle.reduce_ops.specs.Parts.{StandsFor as FoldStands}
 use Rattle.reduce_ops.proofs.SettledSums.{first_settles as first_sum_settles, sum_settled, sum_settles}
+use Rattle.sort_ops.specs.Parts.{AbstractKept, firsts_of, order_of}
 use Rattle.find_ops.specs.Finds.{find_answer}
 use Rattle.find_ops.proofs.DecisionLemmas.{settled as find_settled}
 use Rattle.job_plan.specs.Arrays.{AbstractArray, array, array_of, values_then, array_append}
@@ -30,7 +31,7 @@ use Rattle.job_plan.specs.declared.part.Part.TheVariants as part
 use Rattle.job_routes.specs.declared.outcome.Outcome.TheVariants as outcome
 use Rattle.job_plan.specs.declared.plan.JobPlan.{JobPlan}
 use Rattle.prefix_walks.specs.Batches.{counted_as}
-use Rattle.job_routes.specs.Legs.{AbstractEnd, folding, finding, collecting, exactly, scanning, AbstractSegment, ended, last_stage, outcome_of, walk_of}
+use Rattle.job_routes.specs.Legs.{AbstractEnd, folding, finding, collecting, exactly, scanning, sorting, keeping_firsts, AbstractSegment, ended, last_stage, outcome_of, walk_of}
 use Rattle.prefix_walks.specs.Pieces.{piece_of}
 use Rattle.job_meaning.specs.Walks.{exact_answer, found_answer, unless_fault}
 use Rattle.job_plan.proofs.SettleLemmas.{faults, find_settles, settles_on}
@@ -132,6 +133,8 @@ settled (finding d) n env (part.Find p) a b h s = find_settled d n env p a b h s
 settled collecting n env (part.Array p) a b h s = s ∙ ap array_of (sym (faulted_stays a b (ap (λ (k : AbstractArray). is_fault k.ending) (sym s) ∙ h)))
 settled (scanning f r) n env (part.Prefix p) a b h s = s ∙ ap (scan f r n) (sym (faulted_stays a b (ap (λ (k : AbstractScan). is_fault k.walk.ending) (sym s) ∙ h)))
 settled exactly n env (part.Exact p) a b h s = sum_settled n p a b h s
+settled sorting n env (part.Sorted p) a b h s = s ∙ ap order_of (sym (faulted_stays a b (ap (λ (k : AbstractKept). is_fault k.ending) (sym s) ∙ h)))
+settled keeping_firsts n env (part.Distinct p) a b h s = s ∙ ap firsts_of (sym (faulted_stays a b (ap (λ (k : AbstractKept). is_fault k.ending) (sym s) ∙ h)))
 settled e n env p a b h s = s
 
 -- ---- arrays
@@ -213,6 +216,8 @@ part_settles (folding f i c) n env (part.Fold p) t h k s = faults (ended (foldin
 part_settles (finding d) n env (part.Find p) t h k s = settles_on (λ r. outcome.Answer (found_answer r)) (find_answer d n env) t (find_settles d n env t (sym (ap is_some s.decision) ∙ h))
 part_settles collecting n env (part.Array p) t h k s = faults (ended collecting n env) t (sym (ap (λ (k : AbstractArray). is_fault k.ending) s) ∙ h)
 part_settles (scanning f r) n env (part.Prefix p) t h k s = faults (ended (scanning f r) n env) t (sym (ap (λ (k : AbstractScan). is_fault k.walk.ending) s) ∙ h)
+part_settles sorting n env (part.Sorted p) t h k s = faults (ended sorting n env) t (sym (ap (λ (k : AbstractKept). is_fault k.ending) s) ∙ h)
+part_settles keeping_firsts n env (part.Distinct p) t h k s = faults (ended keeping_firsts n env) t (sym (ap (λ (k : AbstractKept). is_fault k.ending) s) ∙ h)
 part_settles exactly n env (part.Exact p) t h k s = settles_on (λ r. outcome.Answer (exact_answer r)) (exactly_summed n) t (sum_settles n p t h k s)
 part_settles e n env p t h k s = absurd s
 

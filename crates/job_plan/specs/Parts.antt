@@ -10,6 +10,7 @@ use Rattle.trace.specs.Trace.{Trace, trace, append}
 use Rattle.reduce_ops.specs.declared.op.Op.{Op}
 use Rattle.reduce_ops.specs.Parts.{StandsFor as FoldStands}
 use Rattle.reduce_ops.specs.Reaches.{StandsFor as SumStands, is_running as is_running_sum, is_settled as sum_is_settled, may_search as sum_may_search}
+use Rattle.sort_ops.specs.Parts.{firsts_of, order_of}
 use Rattle.find_ops.specs.Parts.{StandsFor as FindStands}
 use Rattle.early_stop.specs.Leaving.{IsEnough}
 use Rattle.job_plan.specs.Arrays.{array_of}
@@ -20,7 +21,7 @@ use Rattle.job_plan.specs.declared.part.Part.{Part}
 use Rattle.job_plan.specs.declared.part.Part.TheVariants as part
 use Rattle.job_plan.specs.declared.source.Source.{Source}
 use Rattle.prefix_walks.specs.Batches.{counted_as}
-use Rattle.job_routes.specs.Legs.{AbstractEnd, folding, finding, collecting, exactly, scanning, AbstractSegment, walk_of, last_stage, windowed}
+use Rattle.job_routes.specs.Legs.{AbstractEnd, folding, finding, collecting, exactly, scanning, sorting, keeping_firsts, AbstractSegment, walk_of, last_stage, windowed}
 use Rattle.trace.specs.declared.item.Fault.{Fault}
 
 -- the walk over a source of the program
@@ -42,6 +43,8 @@ EndsFor (finding d) n env (part.Find p) t = FindStands d n env p t
 EndsFor collecting n env (part.Array c) t = c ≡ array_of t
 EndsFor (scanning f r) n env (part.Prefix p) t = p ≡ scan f r n t
 EndsFor exactly n env (part.Exact p) t = SumStands n p t
+EndsFor sorting n env (part.Sorted p) t = p ≡ order_of t
+EndsFor keeping_firsts n env (part.Distinct p) t = p ≡ firsts_of t
 EndsFor e n env p t = ⊥
 
 -- whether a part of a whole walk may leave it open what the segment gives, so that the walk is to be done once more, in
@@ -79,6 +82,8 @@ is_settled (part.Find p) = is_some p.decision
 is_settled (part.Array c) = is_fault c.ending
 is_settled (part.Prefix p) = is_fault p.walk.ending
 is_settled (part.Exact p) = sum_is_settled p
+is_settled (part.Sorted p) = is_fault p.ending
+is_settled (part.Distinct p) = is_fault p.ending
 
 -- whether a part is the sum of a walk from the first item on
 abbrev pub is_running : Part → Bool
@@ -95,12 +100,16 @@ settles (suc k) p = if is_running p then false else is_settled p
 abbrev pub end_keeps_items : AbstractEnd → Bool
 end_keeps_items collecting = true
 end_keeps_items (scanning f r) = true
+end_keeps_items sorting = true
+end_keeps_items keeping_firsts = true
 end_keeps_items e = false
 
 -- whether a part keeps items
 abbrev pub keeps_items : Part → Bool
 keeps_items (part.Array c) = true
 keeps_items (part.Prefix p) = true
+keeps_items (part.Sorted p) = true
+keeps_items (part.Distinct p) = true
 keeps_items p = false
 
 -- whether a part takes more items

@@ -30,7 +30,7 @@ use trace::{End, Fed, NoMemory};
 /// values.
 ///
 /// A piece without `window.to` ends as the source does. The walk goes by batches, which begin with 16 items and have
-/// 1,024 at most; it stops after the batch in which nothing more matters. Only the parts of arrays and prefixes need
+/// 1,024 at most; it stops after the batch in which nothing more matters. Only parts that keep items need
 /// memory, for the items that they keep. If registers for batches aren't to be had, the walk goes item by item. A count
 /// after maps that can't have a fault needs no walk: it takes the number of the positions.
 pub fn leaf_until<'p, W: Stop>(

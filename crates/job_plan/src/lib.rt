@@ -12,6 +12,7 @@
 mod array_part;
 mod closing;
 mod counted_part;
+mod distinct_end;
 mod end_part;
 mod exact_end;
 mod find_end;
@@ -33,6 +34,7 @@ mod part_sink;
 mod plan;
 mod prefix_end;
 mod room;
+mod sorted_end;
 mod source;
 mod sources;
 mod streaming;

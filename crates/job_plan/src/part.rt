@@ -13,22 +13,26 @@ ghost use Rattle.job_plan.specs.Parts.{is_fault, is_running, is_settled, keeps_i
 ghost use Rattle.job_plan.specs.Parts.{settles};
 
 use crate::array_part::ArrayPart;
+use crate::distinct_end::distinct_walk;
 use crate::end_part::{EndPart, LastStage};
 use crate::fold_part::FoldPart;
 use crate::found::{answer_of, exact_answer};
+use crate::sorted_end::sorted_walk;
 use batch_eval::{FlaggedLanes, LaneItems};
 use find_ops::FindPart;
 use job_routes::{Outcome, Segment, SegmentEnd};
 use lambda_values::Env;
 use prefix_walks::PrefixPart;
 use reduce_ops::SumPart;
+use sort_ops::{DistinctPart, SortedPart};
 use std::alloc::Global;
 use trace::{End, Fault, Item, NoMemory};
 
 /// What a piece of a segment's source gives to the end of the segment.
 ///
 /// A fold, an exact sum and a find have a constant size. `toArray` keeps all values. A prefix keeps all items, but
-/// borrows values of the sources if no stage comes before it.
+/// borrows values of the sources if no stage comes before it. A sort keeps all items, and `distinct` the first of those
+/// with one value.
 #[derive(Drop)]
 pub enum Part<'p> {
     Fold(FoldPart),
@@ -36,6 +40,8 @@ pub enum Part<'p> {
     Array(ArrayPart),
     Prefix(PrefixPart<'p>),
     Exact(SumPart),
+    Sorted(SortedPart),
+    Distinct(DistinctPart),
 }
 
 /// Does this with what a part of any kind holds.
@@ -47,6 +53,8 @@ macro_rules! of_any_kind {
             Part::Array($held) => $done,
             Part::Prefix($held) => $done,
             Part::Exact($held) => $done,
+            Part::Sorted($held) => $done,
+            Part::Distinct($held) => $done,
         }
     };
 }
@@ -80,6 +88,8 @@ impl<'p> Part<'p> {
                 Part::Prefix(PrefixPart::none(alloc, *prefix, segment.stages.next()))
             }
             SegmentEnd::ExactSum => Part::Exact(SumPart::none()),
+            SegmentEnd::Sorted => Part::Sorted(SortedPart::none(alloc)),
+            SegmentEnd::Distinct => Part::Distinct(DistinctPart::none(alloc)),
         }
     }
 
@@ -129,13 +139,14 @@ impl<'p> Part<'p> {
         match self {
             Part::Fold(part) => end_fault(part.partial.end()),
             Part::Find(_) | Part::Array(_) | Part::Prefix(_) | Part::Exact(_) => None,
+            Part::Sorted(_) | Part::Distinct(_) => None,
         }
     }
 
     /// The part of two pieces side by side, of one segment. A fault of the left one ends both.
     ///
-    /// Only arrays and prefixes may need memory; if the allocation fails, both parts come back. Parts of
-    /// different ends don't merge: the left one stays.
+    /// Parts that keep items may need memory; if the allocation fails, both parts come back. Parts of different ends
+    /// don't merge: the left one stays.
     pub fn merge(self, right: Part<'p>) -> Result<Part<'p>, (Part<'p>, Part<'p>)>
         ensures ok { IfOk result (λ part. (s : AbstractSegment) (env : Numbers) (a b : Trace)
             → StandsFor s env self.entry a
@@ -160,6 +171,8 @@ impl<'p> Part<'p> {
             Part::Find(part) => Ok(Some(Outcome::Answer(answer_of(part.finish())))),
             Part::Array(part) => Ok(Some(Outcome::Answer(part.finish()))),
             Part::Prefix(part) => Ok(Some(Outcome::Source(part.finish(alloc)?))),
+            Part::Sorted(part) => Ok(Some(Outcome::Source(sorted_walk(part)?))),
+            Part::Distinct(part) => Ok(Some(Outcome::Source(distinct_walk(part)?))),
             Part::Exact(part) => match part.finish() {
                 Some(sum) => Ok(Some(Outcome::Answer(exact_answer(sum)))),
                 None => Ok(None),
@@ -197,7 +210,7 @@ impl<'a> EndPart for Part<'a> {
     }
 
     fn merge(self, right: Part<'a>) -> Result<Part<'a>, (Part<'a>, Part<'a>)> {
-        of_one_kind!(self, right, Fold Find Array Prefix Exact)
+        of_one_kind!(self, right, Fold Find Array Prefix Exact Sorted Distinct)
     }
 }
 

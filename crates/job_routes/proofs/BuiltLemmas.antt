@@ -19,7 +19,7 @@ use Rattle.reduce_ops.specs.declared.op.Op.TheVariants as op
 use Rattle.job_routes.proofs.RouteLemmas.{first_answer, pipe_clean}
 use Rattle.job_routes.proofs.MapLemmas.{limit_before_maps, pipe_joined, skip_before_maps}
 use Rattle.job_routes.proofs.RouteLemmas.{length-stages_of, stages_more}
-use Rattle.job_routes.proofs.WindowLemmas.{clean_scanned, clean_source, clean_window}
+use Rattle.job_routes.proofs.WindowLemmas.{clean_window}
 
 -- one element more
 pub pushed_length : {A : Type 0} (new xs : List A) (x : A) → new ≡ xs ++ x ∷ [] → length new ≡ suc (length xs)
@@ -47,8 +47,9 @@ skip_selects n gs k maps calm t u h m env = sym (skip_before_maps n gs maps calm
 -- a slice that selects positions
 pub window_next : (b new : Begun) (w : Window) (d : AbstractSlice) → b.links.items ≡ [] → (new.scans ≡ b.scans) × (new.links ≡ b.links) → new.window ≡ w
     → ((env : Numbers) (t : Trace) → walk_through new.stages env t ≡ walk_through b.stages env t) → number_after new.stages ≡ suc (number_after b.stages)
-    → ((m : ℕ) (env : Numbers) (t : Trace) → IsClean t
-    → walk_through b.stages env (windowed w.from w.to t) ≡ sliced d m env (walk_through b.stages env (windowed b.window.from b.window.to t)))
+    → ((m : ℕ) (env : Numbers) (ss : List AbstractPlainSource)
+    → walk_through b.stages env (windowed w.from w.to (scanned (legs_in b.scans.items) env (source_walk ss)))
+    ≡ sliced d m env (walk_through b.stages env (windowed b.window.from b.window.to (scanned (legs_in b.scans.items) env (source_walk ss)))))
     → HasNext b (sliced d) new
 window_next b new w d none kept window same number selects = record {
   walk = λ env ss.
@@ -56,19 +57,20 @@ window_next b new w d none kept window same number selects = record {
       same env (walk_over new env ss)
       ∙ (λ i. walk_through b.stages env (linked (links_in (kept.1 i).items) env (windowed (window i).from (window i).to (scanned (legs_in (kept.0 i).items) env (source_walk ss)))))
       ∙ ap (λ (ls : List Link). walk_through b.stages env (linked (links_in ls) env (windowed w.from w.to u))) none
-      ∙ selects (number_after b.stages) env u (clean_scanned (legs_in b.scans.items) env (source_walk ss) (clean_source ss))
+      ∙ selects (number_after b.stages) env ss
       ∙ sym (ap (λ (ls : List Link). sliced d (number_after b.stages) env (walk_through b.stages env (linked (links_in ls) env (windowed b.window.from b.window.to u)))) none);
   number = number;
   few = let l = ap (λ v. length v.items) kept.1 in omega (arith, l);
 }
 
 -- a fold that keeps the first value finds it
-pub first_found : (b : Begun) → b.links.items ≡ [] → AreFaultless true (stages_of b.stages.list.items) → (n : ℕ) (env : Numbers) (ss : List AbstractPlainSource)
+pub first_found : (b : Begun) → b.links.items ≡ [] → AreFaultless true (stages_of b.stages.list.items)
+    → ((env : Numbers) (ss : List AbstractPlainSource) → IsClean (scanned (legs_in b.scans.items) env (source_walk ss))) → (n : ℕ) (env : Numbers) (ss : List AbstractPlainSource)
     → ended (finding (find_of terminal.First)) n env (begun_walk b env ss) ≡ ended (folding op.First None false) n env (begun_walk b env ss)
-first_found b links calm n env ss =
+first_found b links calm clean_legs n env ss =
     let u : Trace = windowed b.window.from b.window.to (scanned (legs_in b.scans.items) env (source_walk ss)) in
     let walk : begun_walk b env ss ≡ walk_through b.stages env u = ap (λ (ls : List Link). walk_through b.stages env (linked (links_in ls) env u)) links in
-    let clean = clean_window b.window.from b.window.to _ (clean_scanned (legs_in b.scans.items) env (source_walk ss) (clean_source ss)) in
+    let clean = clean_window b.window.from b.window.to _ (clean_legs env ss) in
     let w : Trace = walk_through b.stages env u in
     ap (ended (finding (find_of terminal.First)) n env) walk
     ∙ first_answer n env w.items w.ending (pipe_clean b.stages.first (stages_of b.stages.list.items) calm env u clean)

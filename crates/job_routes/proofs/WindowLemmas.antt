@@ -1,7 +1,8 @@
 -- Positions of walks without an item before a fault, and the slices that select them.
-use Rattle.std.proofs.Common.{◌≡◌, ℕ, zero, suc, ◌<◌, ◌^◌, ℤ, nat_lt, if◌then◌else◌, Bool, true, false, List, [], ◌∷◌, length, take, drop, Option, None, refl, sym, ap, subst, ◌∙◌, arith}
+use Rattle.std.proofs.Common.{◌≡◌, ℕ, zero, suc, ◌+◌, ◌-◌, ◌<◌, ◌^◌, ℤ, nat_lt, if◌then◌else◌, Bool, true, false, List, [], ◌∷◌, ◌++◌, length, take, drop, slice_get, Option, Some, None, refl, sym, ap, subst, ◌∙◌, arith}
 use Rattle.std.proofs.lemmas.Bool.{ltb-true, lt-ltb}
-use Rattle.std.proofs.lemmas.List.{take_all}
+use Rattle.std.proofs.lemmas.List.{take_all, take_more}
+use Rattle.std.proofs.lemmas.Option.{slice_get_within, get_or_from_slice_get}
 use Rattle.lambda_values.specs.Earlier.{Numbers}
 use Rattle.trace.specs.Cover.{placed, too_long}
 use Rattle.trace.specs.Trace.{Trace, trace}
@@ -11,11 +12,14 @@ use Rattle.trace.specs.declared.item.End.TheVariants as end
 use Rattle.reduce_ops.specs.Operators.{value_of}
 use Rattle.slice_ops.specs.Slices.{limited, skipped}
 use Rattle.prefix_scan.specs.Prefixes.{Range, ends_after, out_of_array, prefixed, prefixed_to, running}
+use Rattle.sort_ops.specs.Orders.{sorted_to, sorted_walk}
 use Rattle.job_language.specs.Jobs.{AbstractPlainSource}
 use Rattle.prefix_walks.specs.Pieces.{elements}
 use Rattle.job_routes.specs.Building.{IsClean}
-use Rattle.job_routes.specs.Legs.{AbstractEnd, AbstractLeg, collecting, ended, exactly, finding, folding, given_walk, last_stage, leg_walk, linked, scanned, scanning, walk_of, windowed}
+use Rattle.job_routes.specs.Legs.{AbstractEnd, collecting, end_in, ended, exactly, finding, folding, given_walk, keeping_firsts, last_stage, leg_in, leg_walk, legs_in, linked, links_in, scanned, scanning, segment_in, sorting, walk_of, windowed}
 use Rattle.job_meaning.specs.Walks.{source_walk, values_of}
+use Rattle.job_routes.specs.declared.leg.Leg.{Leg}
+use Rattle.job_routes.proofs.LinkLemmas.{last_scanned}
 use Rattle.prefix_walks.proofs.Elements.{drop_none, elements_none}
 
 -- a window of all positions
@@ -45,18 +49,33 @@ clean_prefixed f r n t = by t.ending
     by end.Done = of (ends_after r (length t.items))
     by (end.Fault g) = λ h e. refl
 
-clean_given : (e : AbstractEnd) (n : ℕ) (env : Numbers) (t : Trace) → IsClean (given_walk (ended e n env t))
-clean_given (folding f a counts) n env t = λ g h. refl
-clean_given (finding d) n env t = λ g h. refl
-clean_given (scanning f r) n env t = clean_prefixed (value_of f) r n t
-clean_given exactly n env t = λ g h. refl
-clean_given collecting n env t = λ g h. refl
+clean_sorted : (t : Trace) → IsClean (sorted_walk t)
+clean_sorted t = by t.ending
+  where
+    by : (e : End) → IsClean (sorted_to t.items e)
+    by end.Done = λ g h. absurd (let z : end.Done ≡ end.Fault g = h in cc)
+    by (end.Fault g) = λ h e. refl
 
-pub clean_scanned : (ls : List AbstractLeg) (env : Numbers) (t : Trace) → IsClean t → IsClean (scanned ls env t)
-clean_scanned [] env t h = h
-clean_scanned (l ∷ ls) env t h =
-    let u : Trace = walk_of l.last env (linked l.links env (leg_walk l t)) in
-    clean_scanned ls env (given_walk (ended l.last.ending (last_stage l.last) env u)) (clean_given l.last.ending (last_stage l.last) env u)
+-- only `distinct` gives items before a fault
+clean_given : (e : AbstractEnd) (n : ℕ) (env : Numbers) (t : Trace) → (e ≡ keeping_firsts → ⊥) → IsClean (given_walk (ended e n env t))
+clean_given (folding f a counts) n env t other = λ g h. refl
+clean_given (finding d) n env t other = λ g h. refl
+clean_given (scanning f r) n env t other = clean_prefixed (value_of f) r n t
+clean_given sorting n env t other = clean_sorted t
+clean_given keeping_firsts n env t other = absurd (other refl)
+clean_given exactly n env t other = λ g h. refl
+clean_given collecting n env t other = λ g h. refl
+
+-- what the last of several legs gives
+pub clean_last : (ls : List Leg) (l : Leg) (env : Numbers) (t : Trace) → Some l ≡ slice_get ls (length ls - 1) → (end_in l.last.end ≡ keeping_firsts → ⊥) → IsClean (scanned (legs_in ls) env t)
+clean_last ls l env t is other =
+    let i = length ls - 1 in
+    let within = slice_get_within ls i l (sym is) in
+    let more : take (i + 1) ls ≡ take i ls ++ l ∷ [] = take_more ls i l within ∙ ap (λ (m : Leg). take i ls ++ m ∷ []) (get_or_from_slice_get ls i l l (sym is)) in
+    let all : ls ≡ take i ls ++ l ∷ [] = sym (take_all (i + 1) ls (omega (arith, within))) ∙ more in
+    let s = segment_in l.last in
+    let u : Trace = walk_of s env (linked (links_in l.links.items) env (leg_walk (leg_in l) (scanned (legs_in (take i ls)) env t))) in
+    subst (λ (w : Trace). IsClean w) (sym (last_scanned ls (take i ls) l env t all)) (clean_given (end_in l.last.end) (last_stage s) env u other)
 
 -- ---- slices of positions
 

@@ -12,6 +12,8 @@ use Rattle.reduce_ops.specs.Folds.{fold_from, fold_items}
 use Rattle.reduce_ops.specs.Operators.{identity_of, value_of}
 use Rattle.slice_ops.specs.Slices.{AbstractSlice, slice_of, sliced}
 use Rattle.prefix_scan.specs.Prefixes.{Range, prefixed}
+use Rattle.sort_ops.specs.Firsts.{distinct_walk}
+use Rattle.sort_ops.specs.Orders.{sorted_walk}
 use Rattle.prefix_walks.specs.Batches.{counted_as}
 use Rattle.prefix_walks.specs.Pieces.{elements}
 use Rattle.find_ops.specs.Finds.{Find, any_match, all_match, find_answer, find_of, first as find_first, none_match}
@@ -31,13 +33,15 @@ use Rattle.job_routes.specs.declared.leg.Leg.{Leg}
 use Rattle.job_routes.specs.declared.leg.Link.{Link}
 
 -- the end of a segment: a fold (its operator, its start, and whether it counts), a find or a match, the values, an exact
--- sum, or a prefix (its operator and its range)
+-- sum, a prefix (its operator and its range), a `sorted`, or a `distinct`
 pub data AbstractEnd : Type 0 where
   folding : Op → Option ℤ → Bool → AbstractEnd
   finding : Find → AbstractEnd
   collecting : AbstractEnd
   exactly : AbstractEnd
   scanning : Op → Range → AbstractEnd
+  sorting : AbstractEnd
+  keeping_firsts : AbstractEnd
 
 -- stages that look at one item at a time, the first one with this number, and what ends them
 pub record AbstractSegment : Type 0 where
@@ -59,7 +63,7 @@ pub record AbstractLeg : Type 0 where
   pub links : List AbstractLink
   pub last : AbstractSegment
 
--- legs of which each goes over the walk that the one before it gives: those that end in prefixes, and the last one, which
+-- legs of which each goes over the walk that the one before it gives: those that give walks, and the last one, which
 -- gives the answer
 pub record AbstractLegs : Type 0 where
   pub scans : List AbstractLeg
@@ -87,6 +91,8 @@ abbrev pub ended : AbstractEnd → ℕ → Numbers → Trace → Outcome
 ended (folding f a counts) n env t = outcome.Answer (unless_fault t.ending (folded f a (counted_as counts t.items)))
 ended (finding d) n env t = outcome.Answer (found_answer (find_answer d n env t))
 ended (scanning f r) n env t = outcome.Source (prefixed (value_of f) r n t)
+ended sorting n env t = outcome.Source (sorted_walk t)
+ended keeping_firsts n env t = outcome.Source (distinct_walk [] t)
 ended exactly n env t = outcome.Answer (exact_answer (exactly_summed n t))
 ended collecting n env t = outcome.Answer (unless_fault t.ending (answer.Array (each_of (λ (x : Item). x.value) t.items)))
 
@@ -164,6 +170,8 @@ end_in (ends.Find d) = finding (find_of d)
 end_in ends.Array = collecting
 end_in ends.ExactSum = exactly
 end_in (ends.Prefix p) = scanning p.op p.range
+end_in ends.Sorted = sorting
+end_in ends.Distinct = keeping_firsts
 
 -- the test that an end asks of items: a match has one
 abbrev pub test_of : AbstractEnd → Option Truth
@@ -175,6 +183,8 @@ test_of (finding (none_match p)) = Some p
 test_of collecting = None
 test_of exactly = None
 test_of (scanning f r) = None
+test_of sorting = None
+test_of keeping_firsts = None
 
 -- whether an end takes lanes with their flags: a fold whose operator has an identity, and `findFirst`
 abbrev pub takes_flags : AbstractEnd → Bool
@@ -186,6 +196,8 @@ takes_flags (finding (none_match p)) = false
 takes_flags collecting = false
 takes_flags exactly = false
 takes_flags (scanning f r) = false
+takes_flags sorting = false
+takes_flags keeping_firsts = false
 
 -- the number of the stage after stages of the program, and what these make of a walk
 abbrev pub number_after : NumberedStages → ℕ

@@ -1,18 +1,17 @@
 //! The route of a job, built stage by stage. A stage goes to the stages that look at one item at a time, to the
-//! positions that its leg goes over, or to the slices that a walk goes through; a prefix ends a leg.
+//! positions that its leg goes over, or to the slices that a walk goes through; a `prefix`, a `sorted` or a `distinct`
+//! ends a leg.
 
-ghost use Rattle.std.specs.Prelude.{◌≡◌, ◌≤◌, ℕ, suc, List, [], None, length, IfOk, IfSome, OnOk};
+ghost use Rattle.std.specs.Prelude.{◌≡◌, ◌≤◌, ℕ, suc, List, [], None, length, IfOk, IfSome, IsTrue, OnOk};
 ghost use Rattle.lambda_values.specs.Earlier.{Numbers};
 ghost use Rattle.trace.specs.Stages.{stage_of, through};
 ghost use Rattle.trace.specs.Trace.{Trace};
-ghost use Rattle.reduce_ops.specs.Operators.{value_of};
-ghost use Rattle.prefix_scan.specs.Prefixes.{prefixed};
 ghost use Rattle.slice_ops.specs.Slices.{slice_of, sliced};
 ghost use Rattle.job_language.specs.Jobs.{AbstractPlainSource, job_stage_of, job_stages_of, terminal_of};
 ghost use Rattle.job_meaning.specs.Walks.{after_stage, after_stages, answer_of, source_walk};
 ghost use Rattle.job_routes.specs.Building.{HasNext, IsClean, begun_walk};
 ghost use Rattle.job_routes.specs.Legs.{end_in, leg_in, legs_in, number_after, walk_through};
-ghost use Rattle.job_routes.specs.Legs.{ended, legs_answer, windowed};
+ghost use Rattle.job_routes.specs.Legs.{ended, given_walk, legs_answer, scanned, windowed};
 
 use crate::ends::SegmentEnd;
 use crate::leg::{Leg, Link};
@@ -28,7 +27,7 @@ use std::alloc::Global;
 use std::mem;
 use trace::{NoMemory, Stage};
 
-/// A route as far as it is built: the legs up to prefixes, and the leg that goes on.
+/// A route as far as it is built: the legs that have ended, and the leg that goes on.
 #[derive(Drop)]
 pub(crate) struct Begun {
     alloc: Global,
@@ -57,22 +56,37 @@ impl Begun {
         }
     }
 
+    /// Whether what the leg goes over has no item before a fault: `distinct` gives such items.
+    fn is_clean(&self) -> bool
+        ensures { IsTrue result → (env : Numbers) (ss : List AbstractPlainSource)
+            → IsClean (scanned (legs_in self.now.scans.items) env (source_walk ss)) }
+    {
+        match self.scans.last() {
+            Some(leg) => leg.last.end.gives_clean(),
+            None => true,
+        }
+    }
+
     /// The positions that are left if a slice selects some of those that the leg goes over: only maps come before it.
     /// `skip` drops what maps make of items, so none of these may have a fault. `limit(0)` takes the fault of a walk
-    /// away.
+    /// away, and so does any limit that ends before it.
     fn selected(&self, slice: &Slice) -> Option<Window>
         ensures unlinked { IfSome result (λ _. self.now.links.items ≡ []) }
-        ensures window { IfSome result (λ w. (m : ℕ) (env : Numbers) (t : Trace) → IsClean t
-            → walk_through self.now.stages env (windowed w.from w.to t)
+        ensures window { IfSome result (λ w. (m : ℕ) (env : Numbers) (ss : List AbstractPlainSource)
+            → walk_through self.now.stages env (windowed w.from w.to
+            (scanned (legs_in self.now.scans.items) env (source_walk ss)))
             ≡ sliced (slice_of slice.now) m env (walk_through self.now.stages env
-            (windowed self.now.window.from self.now.window.to t))) }
+            (windowed self.now.window.from self.now.window.to
+            (scanned (legs_in self.now.scans.items) env (source_walk ss))))) }
     {
         if !self.links.is_empty() {
             return None;
         }
         let stages: &[Stage] = &self.stages.list;
         match slice {
-            Slice::Limit(count) if *count > 0 && are_maps(stages) => self.window.limited(*count),
+            Slice::Limit(count) if *count > 0 && are_maps(stages) && self.is_clean() => {
+                self.window.limited(*count)
+            }
             Slice::Skip(count) if are_maps(stages) && are_faultless(stages) => {
                 self.window.skipped(*count)
             }
@@ -135,7 +149,7 @@ impl Begun {
         self.link(slice)
     }
 
-    /// The leg since the last prefix, with this end; the next one goes over all positions.
+    /// The leg that goes on, with this end; the next one goes over all positions.
     fn take_leg(&mut self, end: SegmentEnd) -> Leg
         requires number { number_after self.old.stages ≤ 33 }
         requires few { length self.old.links.items ≤ 32 }
@@ -158,14 +172,14 @@ impl Begun {
         }
     }
 
-    /// Adds a prefix.
-    fn scan(&mut self, prefix: Prefix) -> Result<(), NoMemory>
+    /// Ends the leg so; the next one goes over what it gives.
+    fn scan(&mut self, end: SegmentEnd) -> Result<(), NoMemory>
         requires few { number_after self.old.stages ≤ 32 }
         requires links { length self.old.links.items ≤ 32 }
         ensures { OnOk result
-            (HasNext self.old (λ n env t. prefixed (value_of prefix.op) prefix.range n t) self.new) }
+            (HasNext self.old (λ n env t. given_walk (ended (end_in end) n env t)) self.new) }
     {
-        let leg = self.take_leg(SegmentEnd::Prefix(prefix));
+        let leg = self.take_leg(end);
         self.scans.push(leg)?;
         Ok(())
     }
@@ -189,28 +203,34 @@ impl Begun {
         match stage {
             JobStage::Item(stage) => self.item(stage),
             JobStage::Slice(slice) => self.slice(slice),
-            JobStage::Prefix { positions, op } => self.scan(Prefix {
-                op,
-                range: positions,
-            }),
+            JobStage::Prefix { positions, op } => {
+                let range = positions;
+                self.scan(SegmentEnd::Prefix(Prefix { op, range }))
+            }
+            JobStage::Sorted => self.scan(SegmentEnd::Sorted),
+            JobStage::Distinct => self.scan(SegmentEnd::Distinct),
         }
     }
 
     /// The end that is walked for another one: `findFirst` for a fold that keeps the first value, if no fault can come
-    /// after an item.
+    /// after an item, which is so of a clean walk and stages without faults.
     fn end_for(&self, end: SegmentEnd) -> SegmentEnd
         ensures { (n : ℕ) (env : Numbers) (ss : List AbstractPlainSource)
             → ended (end_in result) n env (begun_walk self.now env ss)
             ≡ ended (end_in end) n env (begun_walk self.now env ss) }
     {
-        if self.links.is_empty() && end.keeps_first() && are_faultless(&self.stages.list) {
+        if self.links.is_empty()
+            && end.keeps_first()
+            && are_faultless(&self.stages.list)
+            && self.is_clean()
+        {
             return SegmentEnd::Find(FindTerminal::First);
         }
         end
     }
 }
 
-/// The legs of a job of these stages and this terminal: those up to prefixes, and the last one.
+/// The legs of a job of these stages and this terminal: those that give walks, and the last one.
 pub fn legs_of(
     alloc: Global,
     stages: Vec<JobStage>,

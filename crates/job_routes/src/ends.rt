@@ -1,9 +1,9 @@
 //! What ends a segment, and all that is asked of it but its parts.
 
-ghost use Rattle.std.specs.Prelude.{◌≡◌, IsTrue, None, false, option_map};
+ghost use Rattle.std.specs.Prelude.{◌≡◌, ◌≢◌, IsTrue, None, false, option_map};
 ghost use Rattle.job_language.specs.Jobs.{terminal_of};
 ghost use Rattle.job_meaning.specs.Walks.{number_as};
-ghost use Rattle.job_routes.specs.Legs.{end_in, end_of, fallback_in, folding, takes_flags, test_of};
+ghost use Rattle.job_routes.specs.Legs.{end_in, end_of, fallback_in, folding, keeping_firsts, takes_flags, test_of};
 ghost use Rattle.lambda_values.specs.Term.{truth_of};
 
 use crate::fallback::Fallback;
@@ -36,6 +36,10 @@ pub enum SegmentEnd {
     Prefix(Prefix),
     /// `reduce(0, Math::addExact)`.
     ExactSum,
+    /// `sorted`.
+    Sorted,
+    /// `distinct`.
+    Distinct,
 }
 
 impl SegmentEnd {
@@ -79,7 +83,15 @@ impl SegmentEnd {
             SegmentEnd::Fold(fold) => fold.op.identity().is_some(),
             SegmentEnd::Find(find) => matches!(find, FindTerminal::First),
             SegmentEnd::Array | SegmentEnd::Prefix(_) | SegmentEnd::ExactSum => false,
+            SegmentEnd::Sorted | SegmentEnd::Distinct => false,
         }
+    }
+
+    /// Whether what it gives has no item before a fault: `distinct` gives such items.
+    pub(crate) fn gives_clean(&self) -> bool
+        ensures { IsTrue result → end_in self.now ≢ keeping_firsts }
+    {
+        !matches!(self, SegmentEnd::Distinct)
     }
 
     /// Whether it is a fold that keeps the first value, and has no number before it.

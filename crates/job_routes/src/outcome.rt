@@ -10,7 +10,7 @@ use trace::End;
 /// What a segment makes of its source.
 #[derive(Drop)]
 pub enum Outcome<'a> {
-    /// Of a segment that a prefix ends: what the next leg goes over.
+    /// Of a segment that no terminal ends: what the next leg goes over.
     Source(GivenWalk<'a>),
     /// Of the last leg: the answer of the job.
     Answer(Answer),

@@ -18,7 +18,7 @@ use Rattle.job_plan.specs.declared.fold_part.FoldPart.{FoldPart}
 use Rattle.job_plan.specs.declared.part.Part.{Part}
 use Rattle.job_plan.specs.declared.part.Part.TheVariants as part
 use Rattle.job_plan.specs.Parts.{EndsFor, end_fault, fold_fault}
-use Rattle.job_routes.specs.Legs.{AbstractEnd, folding, finding, collecting, exactly, scanning, AbstractSegment, ended, folded, given_answer, last_stage, leg_at, legs_answer, walk_of}
+use Rattle.job_routes.specs.Legs.{AbstractEnd, folding, finding, collecting, exactly, scanning, sorting, keeping_firsts, AbstractSegment, ended, folded, given_answer, last_stage, leg_at, legs_answer, walk_of}
 use Rattle.job_plan.specs.Plans.{AbstractPlan}
 use Rattle.prefix_walks.specs.Pieces.{piece_of}
 use Rattle.job_meaning.specs.FileAnswers.{first_unusable}
@@ -41,6 +41,8 @@ fold_of (part.Find p) f h = absurd (let z : None ≡ Some f = h in cc)
 fold_of (part.Array p) f h = absurd (let z : None ≡ Some f = h in cc)
 fold_of (part.Prefix p) f h = absurd (let z : None ≡ Some f = h in cc)
 fold_of (part.Exact p) f h = absurd (let z : None ≡ Some f = h in cc)
+fold_of (part.Sorted p) f h = absurd (let z : None ≡ Some f = h in cc)
+fold_of (part.Distinct p) f h = absurd (let z : None ≡ Some f = h in cc)
 
 -- ---- a fold of a walk that ends in a fault
 
@@ -50,6 +52,8 @@ fold_gives (finding d) n env p t u f g s h = absurd s
 fold_gives collecting n env p t u f g s h = absurd s
 fold_gives exactly n env p t u f g s h = absurd s
 fold_gives (scanning op r) n env p t u f g s h = absurd s
+fold_gives sorting n env p t u f g s h = absurd s
+fold_gives keeping_firsts n env p t u f g s h = absurd s
 
 fold_walk : (e : AbstractEnd) (n : ℕ) (env : Numbers) (p : FoldPart) (t : Trace) (f : Fault) → EndsFor e n env (part.Fold p) t → p.partial.end ≡ end.Fault f → t.ending ≡ end.Fault f
 fold_walk (folding op a c) n env p t f s h = sym s.stands.ending ∙ h
@@ -57,6 +61,8 @@ fold_walk (finding d) n env p t f s h = absurd s
 fold_walk collecting n env p t f s h = absurd s
 fold_walk exactly n env p t f s h = absurd s
 fold_walk (scanning op r) n env p t f s h = absurd s
+fold_walk sorting n env p t f s h = absurd s
+fold_walk keeping_firsts n env p t f s h = absurd s
 
 -- ---- a walk with a fault in its middle
 

@@ -3,6 +3,7 @@ use denote.Param.Send.{IsSend, IsSync, sendable}
 use denote.Ref.{NamedLft}
 use denote.RattleType.{RattleType}
 use Rattle.std.proofs.Crossing.{crosses}
+use Rattle.std.proofs.MapsCrossing.{crosses as set_crosses}
 use Rattle.lambda_values.proofs.expr.BoolExpr.TheLaws.TheKnot as exprs
 use Rattle.lambda_values.specs.contracts.expr.BoolExpr as truths
 use Rattle.lambda_values.specs.contracts.expr.LongExpr as longs
@@ -12,6 +13,8 @@ use Rattle.job_routes.specs.contracts.leg.Link as links
 use Rattle.job_routes.specs.contracts.leg.Leg as legs
 use Rattle.job_plan.specs.contracts.plan.JobPlan as jobs
 use Rattle.job_plan.specs.contracts.plan.Plan as plans
+use Rattle.sort_ops.specs.contracts.distinct_part.DistinctPart as firsts
+use Rattle.sort_ops.specs.contracts.new_values.NewValues as values
 use Rattle.prefix_walks.specs.contracts.folded_piece.FoldedPiece as pieces
 use Rattle.job_plan.specs.contracts.part.Part as parts
 use Rattle.prefix_walks.specs.contracts.given.GivenWalk as given_walks
@@ -61,8 +64,15 @@ piece_send a = search (sendable, crosses, stage_sync) depth 60 fits 20000
 piece_sync : (a : NamedLft) → IsSync (pieces.the_row a)
 piece_sync a = search (sendable, crosses, stage_sync) depth 60 fits 20000
 
+-- the set of what `distinct` has seen
+values_send : IsSend (values.the_field).row
+values_send = search (sendable, crosses, set_crosses) depth 60 fits 20000
+
+firsts_send : IsSend (firsts.the_field).row
+firsts_send = search (sendable, crosses, values_send) depth 60 fits 20000
+
 pub part_send : (a : NamedLft) → IsSend (parts.the_row a)
-part_send a = search (sendable, crosses, truth_field, piece_send) depth 60 fits 20000
+part_send a = search (sendable, crosses, truth_field, piece_send, firsts_send) depth 60 fits 20000
 
 pub source_send : (a : NamedLft) → IsSend (given_walks.the_row a)
 source_send a = search (sendable, crosses, truth_field, piece_send) depth 60 fits 20000

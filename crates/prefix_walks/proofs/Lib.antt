@@ -4,6 +4,7 @@ pub mod Elements
 pub mod FaultlessLemmas
 pub mod FeedLemmas
 pub mod FlaggedFolds
+pub mod KeptLemmas
 pub mod PieceLemmas
 pub mod PlacingLemmas
 pub mod ScanLemmas

@@ -8,3 +8,4 @@ use Rattle.prefix_walks.specs.declared.kept.Kept.TheVariants as kept
 abbrev pub kept_walk : Kept → Trace
 kept_walk (kept.Ended e) = trace [] e
 kept_walk (kept.Scanned t) = t
+kept_walk (kept.Items xs e) = trace xs.items e

@@ -52,7 +52,7 @@ pub(crate) fn feed_piece<S: BatchSink>(
 }
 
 /// Takes the items at these positions of a buffer.
-fn feed_buffer<S: BatchSink>(
+pub(crate) fn feed_buffer<S: BatchSink>(
     line: Pipeline<'_>,
     buffer: &PieceBuffer,
     window: Window,

@@ -6,7 +6,7 @@ ghost use Rattle.trace.specs.Trace.{trace};
 use crate::kept::Kept;
 use crate::scanned::ScannedWalk;
 use std::marker::Model;
-use trace::End;
+use trace::{End, Item};
 
 /// A walk that was kept, as the source of another one, in which any number of callers look for their positions.
 ///
@@ -44,6 +44,15 @@ impl<'a> GivenWalk<'a> {
         }
     }
 
+    /// Keeps items, and the end of the walk that has them.
+    pub fn items(items: Vec<Item>, end: End) -> GivenWalk<'a>
+        ensures { result ≡ trace items.items end }
+    {
+        GivenWalk {
+            kept: Kept::Items(items, end),
+        }
+    }
+
     /// How the walk ended.
     pub fn end(&self) -> End
         ensures { result ≡ self.now.ending }
@@ -51,6 +60,7 @@ impl<'a> GivenWalk<'a> {
         match &self.kept {
             Kept::Ended(end) => *end,
             Kept::Scanned(walk) => walk.end(),
+            Kept::Items(_, end) => *end,
         }
     }
 
@@ -61,6 +71,7 @@ impl<'a> GivenWalk<'a> {
         match &self.kept {
             Kept::Ended(_) => 0,
             Kept::Scanned(walk) => walk.size(),
+            Kept::Items(items, _) => items.len() as u64,
         }
     }
 }

@@ -1,7 +1,7 @@
 //! What is kept of a walk.
 
 use crate::scanned::ScannedWalk;
-use trace::End;
+use trace::{End, Item};
 
 /// What is kept of a walk.
 #[derive(Drop)]
@@ -10,4 +10,6 @@ pub enum Kept<'a> {
     Ended(End),
     /// What comes before a prefix, scanned as it is walked.
     Scanned(ScannedWalk<'a>),
+    /// Its items, and how it ended.
+    Items(Vec<Item>, End),
 }

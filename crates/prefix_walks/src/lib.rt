@@ -17,6 +17,7 @@ mod folded_walk;
 mod folding;
 mod given;
 mod kept;
+mod kept_items;
 mod laws;
 mod piece_buffer;
 mod piece_folds;

@@ -92,6 +92,16 @@ impl PieceBuffer {
         }
     }
 
+    /// Starts again with these items, if there is space for them.
+    pub(crate) fn fill(&mut self, items: &[Item])
+        ensures { length items.now ≤ 1024 → self.new ≡ items.now }
+    {
+        self.clear();
+        for item in items {
+            self.add(*item);
+        }
+    }
+
     /// The items, where they lie.
     pub(crate) fn lanes(&self) -> LaneItems<'_>
         ensures { laid_items result.start result.places.now result.values.now ≡ self.now }

@@ -16,6 +16,7 @@ use crate::folded_piece::{FoldedPiece, PieceStart};
 use crate::folded_walk::{Scan, feed_piece};
 use crate::given::GivenWalk;
 use crate::kept::Kept;
+use crate::kept_items::feed_items;
 use crate::piece_buffer::PieceBuffer;
 use crate::scanned::ScannedWalk;
 use crate::window::Window;
@@ -39,6 +40,7 @@ pub fn feed_given<S: BatchSink>(
     match &given.kept {
         Kept::Ended(_) => Ok(Fed::More),
         Kept::Scanned(walk) => feed_scanned(line, walk, window, registers, sink),
+        Kept::Items(items, _) => feed_items(line, items, window, registers, sink),
     }
 }
 

@@ -14,7 +14,7 @@ use Rattle.trace.specs.Stages.{AbstractStage, map, filter, flat_map, image, pass
 use Rattle.trace.specs.Trace.{Trace, trace, then_on, append, each}
 use Rattle.trace.proofs.CoverLemmas.{cover_short}
 use Rattle.trace.proofs.JoinLemmas.{each_append}
-use Rattle.job_language.specs.Jobs.{AbstractPlainSource, AbstractJobStage, item, slice, prefix}
+use Rattle.job_language.specs.Jobs.{AbstractPlainSource, AbstractJobStage, item, slice, prefix, sorted, distinct}
 use Rattle.job_language.specs.Places.{stage_is_placeless}
 use Rattle.job_meaning.specs.Walks.{after_stages, plain_values, source_walk}
 use Rattle.report_merge.specs.Mergeable.{are_items}
@@ -99,6 +99,8 @@ stages_later k n (item g ∷ gs) env t good p =
     ap (after_stages (suc n) gs env) (each_later k n g env t.items t.ending parts.0) ∙ stages_later k (suc n) gs env (through n g env t) good parts.1
 stages_later k n (slice d ∷ gs) env t good p = no_slice good
 stages_later k n (prefix r f ∷ gs) env t good p = no_slice good
+stages_later k n (sorted ∷ gs) env t good p = no_slice good
+stages_later k n (distinct seen ∷ gs) env t good p = no_slice good
 
 -- ---- over another table
 
@@ -120,6 +122,8 @@ module _ (a b : Numbers) (same : a.earlier ≡ b.earlier) where
       ap (after_stages (suc n) gs a) (each_over n g t.items t.ending parts.0) ∙ stages_over (suc n) gs (through n g b t) good parts.1
   stages_over n (slice d ∷ gs) t good p = no_slice good
   stages_over n (prefix r f ∷ gs) t good p = no_slice good
+  stages_over n (sorted ∷ gs) t good p = no_slice good
+  stages_over n (distinct seen ∷ gs) t good p = no_slice good
 
 -- they keep walks joined
 pub stages_joined : (n : ℕ) (gs : List AbstractJobStage) (env : Numbers) (a b : Trace) → are_items gs ≡ true → after_stages n gs env (append a b) ≡ append (after_stages n gs env a) (after_stages n gs env b)
@@ -128,6 +132,8 @@ stages_joined n (item g ∷ gs) env a b good =
     ap (after_stages (suc n) gs env) (each_append (of_item n g env) a b) ∙ stages_joined (suc n) gs env (through n g env a) (through n g env b) good
 stages_joined n (slice d ∷ gs) env a b good = no_slice good
 stages_joined n (prefix r f ∷ gs) env a b good = no_slice good
+stages_joined n (sorted ∷ gs) env a b good = no_slice good
+stages_joined n (distinct seen ∷ gs) env a b good = no_slice good
 
 -- ---- places within m rows
 
@@ -189,6 +195,8 @@ stages_within m n [] env t good w = w
 stages_within m n (item g ∷ gs) env t good w = stages_within m (suc n) gs env (through n g env t) good (each_within m n g env t.items t.ending w.items w.ending)
 stages_within m n (slice d ∷ gs) env t good w = no_slice good
 stages_within m n (prefix r f ∷ gs) env t good w = no_slice good
+stages_within m n (sorted ∷ gs) env t good w = no_slice good
+stages_within m n (distinct seen ∷ gs) env t good w = no_slice good
 
 -- ---- the walk over values
 

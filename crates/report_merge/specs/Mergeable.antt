@@ -4,7 +4,7 @@ use Rattle.std.specs.Prelude.{ℕ, ◌+◌, ℤ, Bool, true, false, ◌&&◌, �
 use Rattle.std.specs.List.{list_all}
 use Rattle.std.specs.Ordering.{int_eq}
 use Rattle.reduce_ops.specs.Operators.{identity_of}
-use Rattle.job_language.specs.Jobs.{AbstractPlainSource, range, range_closed, values, result, AbstractJobStage, item, slice, prefix, AbstractTerminal, sum, count, min, max, to_array, reduce, reduce_from, find, exact_sum, AbstractJob}
+use Rattle.job_language.specs.Jobs.{AbstractPlainSource, range, range_closed, values, result, AbstractJobStage, item, slice, prefix, sorted, distinct, AbstractTerminal, sum, count, min, max, to_array, reduce, reduce_from, find, exact_sum, AbstractJob}
 use Rattle.job_language.specs.Places.{stage_is_placeless, terminal_is_placeless}
 use Rattle.job_meaning.specs.Names.{names_in_job, same_name}
 use Rattle.report_merge.specs.declared.unmergeable.Unmergeable.{Unmergeable}
@@ -42,6 +42,8 @@ are_items [] = true
 are_items (item g ∷ gs) = are_items gs
 are_items (slice d ∷ gs) = false
 are_items (prefix r f ∷ gs) = false
+are_items (sorted ∷ gs) = false
+are_items (distinct seen ∷ gs) = false
 
 -- whether no lambda of a job looks at a cell of the item's row, or at the row's number: a part counts its rows from 0
 abbrev pub job_is_placeless : AbstractJob → Bool

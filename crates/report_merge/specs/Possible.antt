@@ -9,7 +9,7 @@ use Rattle.trace.specs.declared.item.Fault.{Fault}
 use Rattle.trace.specs.Stages.{map, filter, flat_map}
 use Rattle.slice_ops.specs.Slices.{limit, skip, take_while, drop_while}
 use Rattle.find_ops.specs.Finds.{Find, first, any_match, all_match, none_match}
-use Rattle.job_language.specs.Jobs.{AbstractJobStage, item, slice, prefix, AbstractTerminal, sum, count, min, max, to_array, reduce, reduce_from, find, exact_sum, AbstractJob}
+use Rattle.job_language.specs.Jobs.{AbstractJobStage, item, slice, prefix, sorted, distinct, AbstractTerminal, sum, count, min, max, to_array, reduce, reduce_from, find, exact_sum, AbstractJob}
 use Rattle.job_meaning.specs.declared.answer.Answer.{Answer}
 use Rattle.job_meaning.specs.declared.answer.Answer.TheVariants as answer
 use Rattle.job_meaning.specs.FileAnswers.{NamedAnswer, first_unusable, jobs_found}
@@ -26,6 +26,8 @@ is_flat_map (item (filter p)) = false
 is_flat_map (item (flat_map g)) = true
 is_flat_map (slice d) = false
 is_flat_map (prefix r f) = false
+is_flat_map sorted = false
+is_flat_map (distinct seen) = false
 
 -- whether one of the stages is a `flatMap`
 abbrev pub flattens : List AbstractJobStage → Bool
@@ -150,6 +152,8 @@ stage_can (slice (skip k)) n f = false
 stage_can (slice (take_while p)) n f = of_lambda f.kind && is_at_item n f.origin
 stage_can (slice (drop_while p)) n f = of_lambda f.kind && is_at_item n f.origin
 stage_can (prefix r g) n f = is_some r && (is_out_of_array f.kind && is_none f.origin)
+stage_can sorted n f = false
+stage_can (distinct seen) n f = false
 
 abbrev pub find_can : Find → ℕ → Fault → Bool
 find_can first n f = false

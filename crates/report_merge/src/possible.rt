@@ -32,6 +32,7 @@ fn is_flat_map(stage: &JobStage) -> bool
         JobStage::Item(Stage::FlatMap(_)) => true,
         JobStage::Item(Stage::Map(_) | Stage::Filter(_)) => false,
         JobStage::Slice(_) | JobStage::Prefix { .. } => false,
+        JobStage::Sorted | JobStage::Distinct => false,
     }
 }
 

@@ -58,6 +58,7 @@ fn stage_can(stage: &JobStage, items: u64, fault: Fault) -> bool
             of_lambda(fault.kind) && is_at_item(items, fault.origin)
         }
         JobStage::Slice(Slice::Limit(_) | Slice::Skip(_)) => false,
+        JobStage::Sorted | JobStage::Distinct => false,
         JobStage::Prefix { positions, .. } => {
             positions.is_some()
                 && (matches!(fault.kind, FaultKind::OutOfArray) && fault.origin.is_none())

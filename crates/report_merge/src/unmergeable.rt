@@ -28,7 +28,7 @@ use trace::{NoMemory, Stage};
 pub enum Unmergeable {
     /// It has several sources, and one of them is a column, or empty.
     Concat,
-    /// It is over a column, and has a `limit`, `skip`, `takeWhile`, `dropWhile` or `prefix`.
+    /// It is over a column, and has a `limit`, `skip`, `takeWhile`, `dropWhile`, `prefix`, `sorted` or `distinct`.
     Stage,
     /// It is over a column, and one of its lambdas has a `cell` or a `row()`: a part counts its rows from 0.
     Row,
@@ -102,7 +102,8 @@ fn are_items(stages: &[JobStage]) -> bool
     for stage in stages {
         match stage {
             JobStage::Item(_) => {}
-            JobStage::Slice(_) | JobStage::Prefix { .. } => return false,
+            JobStage::Slice(_) | JobStage::Prefix { .. } | JobStage::Sorted | JobStage::Distinct =>
+                return false,
         }
     }
     true
@@ -118,6 +119,7 @@ fn stage_is_placeless(stage: &JobStage) -> bool
         JobStage::Item(Stage::FlatMap(inner)) => inner.is_placeless(),
         JobStage::Slice(Slice::TakeWhile(test) | Slice::DropWhile(test)) => test.is_placeless(),
         JobStage::Slice(Slice::Limit(_) | Slice::Skip(_)) | JobStage::Prefix { .. } => true,
+        JobStage::Sorted | JobStage::Distinct => true,
     }
 }
 

@@ -11,7 +11,7 @@
 #![tactic(auto)]
 
 ghost use Rattle.std.specs.Prelude.{◌≡◌, Result, ⊤};
-ghost use Rattle.engine.specs.Given.{IsAnswered};
+ghost use Rattle.engine.specs.Given.{IsAnswered, IsLeft};
 ghost use Rattle.engine.specs.Statuses.{status_after};
 ghost use Rattle.engine.specs.declared.fault.EngineFault.{EngineFault as meant_fault};
 ghost use Rattle.run_settings.specs.Asked.{asked_of};
@@ -172,10 +172,15 @@ fn ended_run<H: Threads + Wait + Sync, C: CountedRead, J: CountedRead, W: Counte
     settings: &Settings,
     progress: &Progress<'_, H>,
 ) -> u8
-    // The status is the status after an answer of the run over these readers and this writer.
+    // The status is the status after an answer of the run over these readers and this writer, with the clauses of `run`
+    // but those two about the reader of columns after the run.
     ensures { (answer : Result ⊤ meant_fault) × (result ≡ status_after answer)
         × IsAnswered C.remaining columns.entry (J.remaining jobs.old) (asked_of settings.now)
-        (W.contents writer.old) (W.contents writer.new) answer }
+        (W.contents writer.old) (W.contents writer.new) answer
+        × IsLeft (record { bytes = J.remaining jobs.old; failures = J.failures jobs.old })
+        (record { bytes = J.remaining jobs.new; failures = J.failures jobs.new })
+        (record { bytes = W.contents writer.old; failures = W.failures writer.old })
+        (record { bytes = W.contents writer.new; failures = W.failures writer.new }) answer }
 {
     let answer = run(
         threads,

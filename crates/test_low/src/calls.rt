@@ -5,6 +5,7 @@ ghost use Rattle.trace.specs.declared.item.End.TheVariants as end;
 use crate::batches::stage;
 use crate::messages::are_messages;
 use find_ops::{FindPart, FindTerminal, Finder, Found};
+use job_names::names_in;
 use lambda_expr::{Want, read_lambda, read_number};
 use lambda_values::{Body, BoolExpr, Env, FaultKind, Inner, InnerExpr, LongExpr};
 use prefix_scan::{down, merge, up};
@@ -12,7 +13,7 @@ use reduce_ops::{Exact, ExactPart, Op, Partial};
 use slice_ops::{Slice, SlicePart, drop_while, limit, skip, take_while};
 use std::alloc::{AllocError, Global};
 use std::test::Fail;
-use stream_tokens::{Bytes, JobText, cut, job_texts};
+use stream_tokens::{Bytes, JobText, JobTexts, cut, job_texts};
 use trace::{Chunk, End, Fault, Fed, Item, NoMemory, PlacedValues, Stage, feed, feed_all};
 
 fn item(origin: u64, value: i64) -> Item {
@@ -70,6 +71,26 @@ fn are_read(alloc: Global) -> Result<bool, NoMemory> {
             && are_tokens
             && is_least
             && bytes.into_vec().as_slice() == text.as_slice(),
+    )
+}
+
+/// Whether the names in these jobs, one after the other, are these.
+fn are_named(alloc: Global, jobs: &[u8], names: &[&[u8]]) -> Result<bool, NoMemory> {
+    let found = names_in(alloc, &mut JobTexts::of(jobs))?;
+    Ok(
+        found
+            .iter()
+            .map(|name| name.as_slice())
+            .eq(names.iter().copied()),
+    )
+}
+
+/// Whether the names in jobs are what stands between quotes, also over lines, and none stand in a file with a fault.
+fn are_names_found(alloc: Global) -> Result<bool, NoMemory> {
+    let jobs = b"a = column(\"x y\").sum()\n# \"no\"\nb = \"\" \"p\n .q\" \"r";
+    Ok(
+        are_named(alloc, jobs, &[b"x y", b"", b"p  .q"])?
+            && are_named(alloc, b".sum(\"x\")\nb = \"y\"", &[])?,
     )
 }
 
@@ -272,6 +293,7 @@ fn each_call_that_the_program_does_not_make_gives_its_value(rt: HostRuntime) -> 
     let alloc = rt.alloc();
     for (calls, are_right) in [
         ("texts, tokens, numbers", are_read(alloc)?),
+        ("names in jobs", are_names_found(alloc)?),
         ("inner streams", are_inner(alloc)?),
         ("places of items", are_rows(alloc)?),
         ("items and values", are_walked(alloc)?),

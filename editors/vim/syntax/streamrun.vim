@@ -11,7 +11,7 @@ syntax match streamrunReference /\$\h\w*/
 syntax match streamrunConstant /\<\%(true\|false\)\>/
 syntax match streamrunClass /\<\%(Math\|Long\|LongStream\|long\)\>/
 syntax match streamrunOperation /\<\%(range\|rangeClosed\|of\|empty\|column\|concat\|result\)\>\ze\s*(/
-syntax match streamrunOperation /\<\%(map\|filter\|flatMap\|limit\|skip\|takeWhile\|dropWhile\|prefix\)\>\ze\s*(/
+syntax match streamrunOperation /\<\%(map\|filter\|flatMap\|limit\|skip\|takeWhile\|dropWhile\|prefix\|sorted\|distinct\)\>\ze\s*(/
 syntax match streamrunOperation /\<\%(sum\|sumExact\|count\|min\|max\|findFirst\|toArray\|reduce\)\>\ze\s*(/
 syntax match streamrunOperation /\<\%(anyMatch\|allMatch\|noneMatch\|onFault\|cell\|row\)\>\ze\s*(/
 syntax match streamrunOperation /^\s*\zsversion\ze\s\+[23]\s*$/

@@ -1,4 +1,4 @@
-use Rattle.std.proofs.Common.{None, ap, refl}
+use Rattle.std.proofs.Common.{None, ap, length, refl}
 use Rattle.lambda_values.specs.Streams.{inner_of}
 use Rattle.batch_eval.specs.Batches.{item_at, lanes, origin_at}
 use Rattle.batch_eval.proofs.FewLemmas.{empty_put, of_rows}
@@ -21,3 +21,6 @@ returns-in-0-clause-put c =
     let registers = c.args.columns.registers.now in
     let item = item_at None c.args.origins.now c.args.values.now in
     empty_put (inner_of c.args.columns.inner.now) registers c.args.from (origin_at c.args.places.start c.args.places.listed.now) (lanes c.args.first item) c.saturating_sub.result c.args.first item (of_rows (inner_of c.args.columns.inner.now) c.in-Of.operands.exprs.items c.exprs.result.now 0 (ap inner_of c.in-Of.is) c.exprs.ensures.value c.in-0.is registers) c.requires.first refl
+
+pub put_rows-requires-in_default-clause-kind : goal.put_rows-requires-in_default-clause-kind
+put_rows-requires-in_default-clause-kind c = of_rows (inner_of c.args.columns.inner.now) c.in-Of.operands.exprs.items c.exprs.result.now (length c.exprs.result.now) (ap inner_of c.in-Of.is) c.exprs.ensures.value refl c.args.columns.registers.now

@@ -1,17 +1,12 @@
-use Rattle.columns.proofs.FrontLemmas.{answer_known, whole_ok}
+use Rattle.columns.specs.Layouts.{form_of}
+use Rattle.columns.proofs.CutLemmas.{answer_before, known_before}
 use Rattle.columns.proofs.reading.read_columns_by.Goals as goal
 
 pub returns-clause-cells : goal.returns-clause-cells
 returns-clause-cells g c =
-    let rem = g.R.CountedRead.remaining in
-    let (gone, consumed, is) = c.columns_up_to.ensures.answer in
-    answer_known (rem c.args.reader.now) (rem c.columns_up_to.new.reader) gone c.columns_up_to.result consumed c.columns_up_to.ensures.end is
-
-pub returns-clause-end : goal.returns-clause-end
-returns-clause-end g c = whole_ok (g.R.CountedRead.remaining c.columns_up_to.new.reader) c.columns_up_to.result c.columns_up_to.ensures.end
-
-pub returns-clause-gave : goal.returns-clause-gave
-returns-clause-gave g c = let (gone, consumed, is) = c.columns_up_to.ensures.answer in (gone, consumed)
+    known_before (form_of c.of_integers-form.result) c.of_integers-form.ensures (g.R.CountedRead.remaining c.args.reader.now) c.read_columns_as.result c.read_columns_as.ensures.cells
 
 pub returns-clause-some_bytes : goal.returns-clause-some_bytes
-returns-clause-some_bytes g c = let (gone, consumed, is) = c.columns_up_to.ensures.answer in (gone, is)
+returns-clause-some_bytes g c =
+    let (bytes, is) = c.read_columns_as.ensures.some_bytes in
+    (bytes, answer_before (form_of c.of_integers-form.result) c.of_integers-form.ensures bytes c.read_columns_as.result is)

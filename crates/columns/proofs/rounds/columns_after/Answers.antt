@@ -1,7 +1,5 @@
-use Rattle.std.proofs.Common.{◌≡◌, ◌∙◌, ◌++◌, Err, Ok, ap, map, rules, sym, take}
+use Rattle.std.proofs.Common.{◌≡◌, ◌∙◌, ◌++◌, Err, Ok, ap, map, rules, sym}
 use Rattle.std.proofs.lemmas.List.{places, with_items_is}
-use Rattle.csv.specs.Reading.{strip_bom}
-use Rattle.columns.specs.Fronts.{IsFront}
 use Rattle.tables.specs.TableOfColumns.{named}
 use Rattle.columns.proofs.FrontLemmas.{file_answer, file_columns, file_fault}
 use Rattle.columns.proofs.rounds.columns_after.Goals as goal
@@ -10,23 +8,24 @@ pub returns-clause-answer : goal.returns-clause-answer
 returns-clause-answer g c =
     let rem = g.R.CountedRead.remaining in
     let bytes = c.args.bytes.items in
-    let before = map named c.as_mut_slice.result.now in
+    let before = map named c.as_mut_slice-slice.result.now in
     let now = map named c.put_rows_after.new.columns in
-    let front : IsFront (take c.args.end (strip_bom bytes)) before = rw c.as_mut_slice.ensures.value c.requires.front in
-    let (gone, consumed, is) = file_answer (rem c.args.reader.now) (rem c.put_rows_after.new.reader) bytes c.args.end before now (Ok tt) (search rules) front
+    let (gone, consumed, is) = file_answer c.args.layout.now (rem c.args.reader.now) (rem c.put_rows_after.new.reader) bytes c.args.end before now (Ok tt) (search rules)
     c.in_ok-put_rows_after.ensures.put in
-    let whole = with_items_is c.args.columns c.put_rows_after.new.columns (search (rules, places)) in
-    (gone, consumed, file_columns (bytes ++ gone) now is ∙ ap Ok (sym (c.of.ensures ∙ ap (map named) whole)))
+    let whole = with_items_is c.args.columns c.put_rows_after.new.columns (search (rules, places)) in (
+      gone,
+      consumed,
+      λ form f. file_columns form (bytes ++ gone) now (is form (rw c.as_mut_slice-slice.ensures.value f)) ∙ ap Ok (sym (c.of.ensures ∙ ap (map named) whole)),
+    )
 
 pub returns-in_err-put_rows_after-clause-answer : goal.returns-in_err-put_rows_after-clause-answer
 returns-in_err-put_rows_after-clause-answer g c =
     let rem = g.R.CountedRead.remaining in
     let bytes = c.args.bytes.items in
-    let before = map named c.as_mut_slice.result.now in
+    let before = map named c.as_mut_slice-slice.result.now in
     let now = map named c.put_rows_after.new.columns in
-    let front : IsFront (take c.args.end (strip_bom bytes)) before = rw c.as_mut_slice.ensures.value c.requires.front in
     let fault = c.in_err-put_rows_after.field-0.0 in
     let answer : c.from_residual.result ≡ Err fault = search rules in
-    let (gone, consumed, is) = file_answer (rem c.args.reader.now) (rem c.put_rows_after.new.reader) bytes c.args.end before now (Err fault) (search rules) front
+    let (gone, consumed, is) = file_answer c.args.layout.now (rem c.args.reader.now) (rem c.put_rows_after.new.reader) bytes c.args.end before now (Err fault) (search rules)
     c.in_err-put_rows_after.ensures.put in
-    rw answer (gone, consumed, file_fault (bytes ++ gone) now fault is)
+    rw answer (gone, consumed, λ form f. file_fault form (bytes ++ gone) now fault (is form (rw c.as_mut_slice-slice.ensures.value f)))

@@ -1,4 +1,4 @@
-use Rattle.std.proofs.Common.{◌≡◌, Err, length, map, rules}
+use Rattle.std.proofs.Common.{◌≡◌, Err, map, rules}
 use Rattle.tables.specs.TableOfColumns.{named}
 use Rattle.columns.proofs.RowLemmas.{RowsLeft-end, RowsLeft-fault, RowsLeft-more}
 use Rattle.columns.proofs.rows.read_rows.Goals as goal
@@ -13,17 +13,15 @@ returns-in_err-read_row-clause-rows c rows r =
     let so_far = c.loop-number.invariant.so_far rows r in
     let fault = c.in_err-read_row.field-0.0 in
     let answer : c.from_residual-in_err-read_row.result ≡ Err fault = search rules in
-    let width : length c.loop-number.columns ≡ length c.args.columns.now = search rules in
     rw answer (λ no_want. RowsLeft-fault _ _ _ _ _ _ _ rows _ _ fault so_far
-    (c.in_ok-next_record.ensures.gave so_far.left so_far.reading) c.if-not-branch.false (rw width at (c.in_err-read_row.ensures.refused no_want)))
+    (c.in_ok-next_record.ensures.gave so_far.left so_far.reading) c.if-not-branch.false (c.in_err-read_row.ensures.refused no_want))
 
 pub loop-number-preserved : goal.loop-number-preserved
 loop-number-preserved c = record {
   set_up = c.in_ok-next_record.ensures.set_up;
   so_far = λ rows r.
       let so_far = c.loop-number.invariant.so_far rows r in
-      let width : length c.loop-number.columns ≡ length c.args.columns.now = search rules in
       let row = c.in_ok-read_row.ensures in
       RowsLeft-more _ _ _ _ _ (map named c.loop-number.columns) _ _ rows _ _ so_far
-      (c.in_ok-next_record.ensures.gave so_far.left so_far.reading) c.if-not-branch.false (rw width at row.fits) row.ok;
+      (c.in_ok-next_record.ensures.gave so_far.left so_far.reading) c.if-not-branch.false row.fits row.ok;
 }

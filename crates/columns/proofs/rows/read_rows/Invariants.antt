@@ -1,4 +1,4 @@
-use Rattle.std.proofs.Common.{ℕ, List, length, map}
+use Rattle.std.proofs.Common.{ℕ, List, map}
 use Rattle.columns.specs.Records.{IsReading, IsSetUp}
 use Rattle.tables.specs.TableOfColumns.{named}
 use Rattle.columns.proofs.RowLemmas.{RowsLeft}
@@ -9,5 +9,5 @@ abbrev pub invariant-loop-number : goal.invariant-loop-number
 invariant-loop-number l = record {
   set_up : IsSetUp l.reader;
   so_far : (rows : List (List (List ℕ))) → IsReading l.initial.reader rows
-      → RowsLeft (length l.initial.columns) l.first l.reader l.number (map named l.columns) (map named l.initial.columns) rows;
+      → RowsLeft l.layout l.first l.reader l.number (map named l.columns) (map named l.initial.columns) rows;
 }

@@ -1,0 +1,42 @@
+use Rattle.std.proofs.Common.{◌≤◌, ◌+◌, inl, inr, arith, length}
+use Rattle.std.proofs.lemmas.Simd.{run_in_chunk_fails, run_in_chunk_stops}
+use Rattle.columns.specs.TextRows.{ends_cell}
+use Rattle.columns.proofs.TextLemmas.{before_or_after}
+use Rattle.columns.proofs.text_cell.mark_from.Goals as goal
+
+pub returns-then-run-lt-BLOCK-clause-none : goal.returns-then-run-lt-BLOCK-clause-none
+returns-then-run-lt-BLOCK-clause-none c k low high =
+    let text = c.args.text.now in
+    let from = c.loop-from.from in
+    let run = c.bare_run-run.result in
+    let (at_from, within, none) = c.loop-from.invariant in
+    let room : from + 16 ≤ length text = omega (arith, within, c.loop-from-test.true) in
+    elim (before_or_after k from) [
+      | inl before ↦ none k low before
+      | inr after ↦ run_in_chunk_fails (λ x. ends_cell c.args.separator x) text from 16 run 0 room c.bare_run-run.ensures k after high
+    ]
+
+pub returns-then-run-lt-BLOCK-clause-mark : goal.returns-then-run-lt-BLOCK-clause-mark
+returns-then-run-lt-BLOCK-clause-mark c =
+    let text = c.args.text.now in
+    let from = c.loop-from.from in
+    let run = c.bare_run-run.result in
+    let (at_from, within, none) = c.loop-from.invariant in
+    let room : from + 16 ≤ length text = omega (arith, within, c.loop-from-test.true) in
+    run_in_chunk_stops (λ x. ends_cell c.args.separator x) text from 16 run 0 room c.bare_run-run.ensures (omega (arith, c.if-run-lt-BLOCK.true))
+
+pub loop-from-preserved : goal.loop-from-preserved
+loop-from-preserved c =
+    let text = c.args.text.now in
+    let from = c.loop-from.from in
+    let run = c.bare_run-run.result in
+    let (at_from, within, none) = c.loop-from.invariant in
+    let room : from + 16 ≤ length text = omega (arith, within, c.loop-from-test.true) in
+    let whole : 16 ≤ run = omega (arith, c.if-run-lt-BLOCK.false) in (
+      omega (arith, at_from),
+      room,
+      λ k low high. elim (before_or_after k from) [
+        | inl before ↦ none k low before
+        | inr after ↦ run_in_chunk_fails (λ x. ends_cell c.args.separator x) text from 16 run 0 room c.bare_run-run.ensures k after (omega (arith, high, whole))
+      ],
+    )

@@ -1,0 +1,47 @@
+//! What a piece gives to `sorted` at the end of a segment.
+
+ghost use Rattle.std.specs.Prelude.{◌≡◌, IfOk};
+ghost use Rattle.sort_ops.specs.Parts.{sorted_by};
+ghost use Rattle.job_plan.specs.declared.part.Part.TheVariants as part;
+
+use crate::end_part::{EndPart, LastStage, is_fault};
+use batch_eval::LaneItems;
+use prefix_walks::GivenWalk;
+use sort_ops::SortedPart;
+use trace::{End, NoMemory};
+
+impl EndPart for SortedPart {
+    ghost as_part = { part.Sorted };
+
+    fn push_all(
+        &mut self,
+        _last: LastStage<'_, '_>,
+        lanes: LaneItems<'_>,
+        _room: &mut [i64],
+    ) -> Result<(), NoMemory> {
+        SortedPart::push_all(self, &lanes)
+    }
+
+    fn end_with(&mut self, ending: End) {
+        SortedPart::end_with(self, ending);
+    }
+
+    fn is_settled(&self) -> bool {
+        is_fault(self.end())
+    }
+
+    fn merge(mut self, right: SortedPart) -> Result<SortedPart, (SortedPart, SortedPart)> {
+        match self.append(right) {
+            Ok(()) => Ok(self),
+            Err(right) => Err((self, right)),
+        }
+    }
+}
+
+/// What `sorted` gives of a whole walk.
+pub(crate) fn sorted_walk<'a>(part: SortedPart) -> Result<GivenWalk<'a>, NoMemory>
+    ensures { IfOk result (λ given. given ≡ sorted_by part) }
+{
+    let (items, end) = part.finish()?;
+    Ok(GivenWalk::items(items, end))
+}

@@ -1,0 +1,10 @@
+-- The lemmas of this crate; the first line of each file says what they are about.
+pub mod Choices
+pub mod DistinctLemmas
+pub mod FirstLemmas
+pub mod LoopLemmas
+pub mod NewLemmas
+pub mod OrderLemmas
+pub mod PartLemmas
+pub mod SortLemmas
+pub mod UniqueLemmas

@@ -1,0 +1,26 @@
+//! The stages that put a walk in order, or take equal values out of it: `sorted` and `distinct`, also over pieces.
+//!
+//! Stands on `trace`, for items and ends. Used by whatever runs one of these stages. What it promises to them: a part
+//! describes a piece of a walk, and two parts side by side merge to the part of both (`SortedPart::append` and
+//! `DistinctPart::append`, clause `ok`); `finish` gives what the stage makes of the whole. `laws.rt` says what the
+//! order of items is and what firsts are, and that every tree of pieces gives them. Begin with `specs/Orders.antt`
+//! and `specs/Firsts.antt`, then `merging.rt`, `sorted_part.rt` and `distinct_part.rt`. Not promised: how much of a
+//! part is in order, or was looked up in its set, before `finish`.
+//! Java: `sorted` and `distinct` of `LongStream` (Java SE 17, `java.util.stream`).
+#![tactic(auto)]
+
+mod adding;
+mod distinct_part;
+mod ends;
+mod laws;
+mod merging;
+mod new_values;
+mod sorted_part;
+
+pub use distinct_part::DistinctPart;
+pub use laws::{
+    an_item_stays_if_its_value_is_new, every_tree_of_pieces_gives_the_firsts,
+    every_tree_of_pieces_gives_the_order, the_order_is_the_only_one, two_orders_merge,
+};
+pub use merging::{merge_items, order};
+pub use sorted_part::SortedPart;
