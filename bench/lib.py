@@ -10,6 +10,8 @@ TOP = os.path.dirname(HERE)
 sys.path.append(os.path.join(TOP, 'tests'))
 from running import measured  # noqa: E402
 
+# Where Debian has crates of Rust.
+CRATES = '/usr/share/cargo/registry'
 # (title, cells) of each row that the running part has shown.
 SHOWN = []
 # Least wall time and processor time in milliseconds, and what the last run printed.
@@ -64,6 +66,21 @@ def peer(work, path, *flags):
         print(f'{path}: left out, since it was not built: {ended.stderr[-400:]}')
         return None
     return command
+
+
+def crate_peer(work, path):
+    """The command of a peer in Rust that is built by cargo with the crates of Debian; None, with a line, if it can't be built."""
+    name, sources = os.path.basename(path), os.path.join(work, f'{os.path.basename(path)}-sources')
+    if not shutil.which('cargo') or not os.path.isdir(CRATES):
+        print(f'{path}: left out, since cargo or the folder {CRATES} (librust-csv-dev) is not there')
+        return None
+    shutil.copytree(os.path.join(HERE, path), sources)
+    more = [word for it in ('crates-io.replace-with="debian"', f'debian.directory="{CRATES}"') for word in ('--config', f'source.{it}')]
+    ended = subprocess.run(['cargo', 'build', '--release', '--offline', *more], cwd=sources, capture_output=True, text=True, check=False)
+    if ended.returncode:
+        print(f'{path}: left out, since it was not built: {ended.stderr[-400:]}')
+        return None
+    return [os.path.join(sources, 'target', 'release', name)]
 
 
 def row(title, cells, width=24):

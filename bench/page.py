@@ -30,15 +30,15 @@ def figures(part, words, program):
     sys.argv = [part, *words.split(), program]
     next(getattr(it, part) for it in (processes, loops, cells) if hasattr(it, part))()
     found, heads, group = {}, [], None
-    for title, cells in lib.SHOWN:
-        if not cells:
+    for title, costs in lib.SHOWN:
+        if not costs:
             group = found.setdefault(title, {})
-        elif all(isinstance(it, str) for it in cells):
-            heads, group = cells, None
+        elif all(isinstance(it, str) for it in costs):
+            heads, group = costs, None
         elif group is None:
-            found[title] = dict(zip(heads, cells))
+            found[title] = dict(zip(heads, costs))
         else:
-            group[title] = cells[0]
+            group[title] = costs[0]
     return found
 
 

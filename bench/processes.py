@@ -1,11 +1,13 @@
 """The parts that time whole processes of the program, from cold; each figure is the least of some turns."""
+import csv
+import io
 import os
 import shutil
 import sys
 import tempfile
 
-from lib import in_turns, least_of, peer, row
-from running import TOP, options_of, run, write
+from lib import crate_peer, in_turns, least_of, peer, row
+from running import TOP, options_of, python_with, run, write
 import tasks
 
 ITEMS, COUNT = 50_000_000, 100_000_000
@@ -108,8 +110,9 @@ def sorting():
         row('ms', ['wall', 'processor'], 50)
         for count, kind, (question, ends) in [(n, k, q) for n in options.counts for k in options.kinds for q in QUESTIONS_OF_ORDER.items()]:
             stream = f'range(0, {count}){NUMBERS[kind]}.{ends.format(int(count) // 2)}'
+            row(f'{question}, {kind}, {count}', [])
             for workers in (1, 4):
-                row(f'{question}, {kind}, {count}, workers: {workers}', jobs.cost(stream, workers, '--language', '3')[:2], 50)
+                row(f'  here {workers}', jobs.cost(stream, workers, '--language', '3')[:2], 50)
             words = [kind, question, count]
             for name, command in [('Java, parallel', java), ('Rust, one thread', rust)]:
                 if command:
@@ -154,21 +157,28 @@ def peers():
 
 
 def tables():
-    """Times one sum and twelve aggregations over tables of several sizes beside mawk, sqlite3 and Rust.
+    """Times one sum and twelve aggregations over tables of several sizes beside mawk, sqlite3 and Rust, and sums over tables with
+    text.
 
-    bench/run tables [--rows N,..] [--columns N,..] [--shapes mixed,short,long,quoted] [--tasks sum,twelve] [--turns N] [PROGRAM]
+    bench/run tables [--rows N,..] [--columns N,..] [--shapes mixed,short,long,quoted,text,lines] [--tasks sum,twelve] [--turns N]
+                     [PROGRAM]
 
     Each peer has to print the program's answers. From four columns on, twelve aggregations follow, beside Rust alone; mawk and
     sqlite3 don't add long numbers in 64 bits. Rust parses each cell but checks neither its range nor the length of a row.
+
+    The shapes text and lines have three columns of integers and two of text of 8 to 40 bytes, one of them in quotes, in `lines` with
+    line feeds; the sums of two columns are asked for by --only-named, and beside it by Miller, sqlite3, mawk, pandas (usecols) and
+    Rust's crate csv; and by the program over a table of the three columns of integers alone.
     """
     options = options_of(tables.__doc__, rows=['100000', '1000000', '10000000'], columns=['1', '4', '16'],
-                         shapes='mixed short long quoted'.split(), tasks=['sum', 'twelve'], turns=3)
+                         shapes='mixed short long quoted text lines'.split(), tasks=['sum', 'twelve'], turns=3)
+    of_texts = [it for it in options.shapes if it in ('text', 'lines')]
     with tempfile.TemporaryDirectory() as folder:
         table = os.path.join(folder, 'data.csv')
         make, rust = peer(folder, 'tables/make_table.c'), peer(folder, 'tables/table.rs', '-C', 'target-cpu=native')
         files = {'sum': 's = column("c0").sum()\n', 'twelve': tasks.twelve('c0', 'c1', 'c2', 'c3')}
         files = {task: write(os.path.join(folder, task + '.jobs'), text) for task, text in files.items()}
-        for rows, columns, shape in [(r, c, s) for r in options.rows for c in options.columns for s in options.shapes]:
+        for rows, columns, shape in [(r, c, s) for r in options.rows for c in options.columns for s in options.shapes if s not in of_texts]:
             with open(table, 'wb') as file:
                 run([*make, rows, columns, shape], stdout=file)
             for task in [it for it in options.tasks if it == 'sum' or int(columns) >= 4]:
@@ -179,6 +189,27 @@ def tables():
                     found |= tasks.sums_of(table)
                 row(f'{task}: {rows} rows of {columns} columns, {shape}', [])
                 show_turns(options.turns, found, 'here 4')
+        if of_texts and make:
+            tables_of_text(options, folder, make, of_texts)
+
+
+def tables_of_text(options, folder, make, shapes):
+    """The sums of two columns of tables with text."""
+    table, numbers = (os.path.join(folder, name) for name in ('text.csv', 'numbers.csv'))
+    jobs, by_csv = write(os.path.join(folder, 'texts.jobs'), tasks.OF_TEXTS), crate_peer(folder, 'tables/by_csv')
+    for rows, shape in [(r, s) for r in options.rows for s in shapes]:
+        with open(table, 'wb') as file:
+            run([*make, rows, '5', shape], stdout=file)
+        with open(table, 'rb') as file, open(numbers, 'wb') as cut:
+            cut.writelines(f'{",".join(it[name] for name in ("id", "qty", "price"))}\n'.encode() for it in
+                           [{'id': 'id', 'qty': 'qty', 'price': 'price'}, *csv.DictReader(io.TextIOWrapper(file, newline=''))])
+        found = {f'here {it}': [options.program, '--workers', it, '--only-named', '--columns', table, jobs] for it in '412'}
+        found |= {f'integers, here {it}': [options.program, '--workers', it, '--columns', numbers, jobs] for it in '41'}
+        found |= {f'csv {it}': [*by_csv, table, it] for it in ('14' if shape == 'text' else '1') if by_csv}
+        found |= tasks.sums_of_texts(table, options.program, jobs, shape == 'lines', python_with('pandas'))
+        row(f'sums: {rows} rows, {shape}', [])
+        print(f'  {os.path.getsize(table) / 10 ** 6:.0f} MB, of which {os.path.getsize(numbers) / 10 ** 6:.0f} MB are integers')
+        show_turns(options.turns, found, 'here 4')
 
 
 def job_files():

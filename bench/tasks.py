@@ -97,6 +97,23 @@ def sums_of(table):
             "sqlite3": ["sqlite3", ":memory:", ".mode csv", f".import {table} t", ".mode list", "select 's = ' || sum(cast(c0 as integer)) from t;"]}
 
 
+# The sums of two columns of a table with text, and what asks other tools for them.
+OF_TEXTS = 'q = column("qty").sum()\np = column("price").sum()\n'
+SQL_OF_TEXTS = "select 'q = ' || sum(cast(qty as integer)), 'p = ' || sum(cast(price as integer)) from t;"
+PANDAS_OF_TEXTS = "import pandas, sys\nt = pandas.read_csv(sys.argv[1], usecols=['qty', 'price'])\nprint(f'q = {t.qty.sum()}\\np = {t.price.sum()}')"
+
+
+def sums_of_texts(table, program, jobs, has_lines, pandas):
+    """The commands of other tools for these sums; has_lines: whether cells hold line feeds, by which mawk would be wrong."""
+    cut = f'mlr --csv cut -f qty,price {table} | {program} --columns /dev/stdin {jobs}'
+    found = {'mlr cut, then here': ['sh', '-c', cut], 'mlr': ['mlr', '--icsv', '--oxtab', '--ops', ' = ', 'stats1', '-a', 'sum', '-f', 'qty,price',
+                                                             'then', 'rename', 'qty_sum,q,price_sum,p', table],
+             'sqlite3': ['sqlite3', ':memory:', ".mode csv", f'.import {table} t', '.mode list', '.separator "\\n"', SQL_OF_TEXTS]}
+    if not has_lines:
+        found['mawk'] = ['mawk', '-F,', 'NR > 1 { q += $3; p += $4 } END { printf "q = %.0f\\np = %.0f\\n", q, p }', table]
+    return found | ({'pandas': [pandas, '-c', PANDAS_OF_TEXTS, table]} if pandas else {})
+
+
 def write_table(path):
     """Eight columns of a million rows; the values of a linear congruence."""
     state = 12345

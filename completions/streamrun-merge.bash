@@ -3,10 +3,13 @@ _streamrun_merge() {
     # shellcheck disable=SC2034  # _init_completion sets them
     local cur prev words cword split
     _init_completion -s || return
-    [ "$prev" = --rows ] && return
+    case $prev in
+        --rows) return ;;
+        --language) mapfile -t COMPREPLY < <(compgen -W '2 3' -- "$cur"); return ;;
+    esac
     $split && return
     case $cur in
-        -*) mapfile -t COMPREPLY < <(compgen -W '--rows --json -h --help' -- "$cur") ;;
+        -*) mapfile -t COMPREPLY < <(compgen -W '--rows --json --language -h --help -V --version' -- "$cur") ;;
         *) _filedir '@(jobs|json)' ;;
     esac
 } && complete -F _streamrun_merge streamrun-merge

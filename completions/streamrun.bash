@@ -4,6 +4,8 @@ _streamrun() {
     local cur prev words cword split
     _init_completion -s || return
     case $prev in
+        --separator) mapfile -t COMPREPLY < <(compgen -W ', \\; \\| tab' -- "$cur"); return ;;
+        --blank) return ;;
         --workers) mapfile -t COMPREPLY < <(compgen -W '1 4 64' -- "$cur"); return ;;
         --threshold) mapfile -t COMPREPLY < <(compgen -W '1 1024 1048576' -- "$cur"); return ;;
         --nodes) mapfile -t COMPREPLY < <(compgen -W '0 4096 1048576' -- "$cur"); return ;;
@@ -12,7 +14,7 @@ _streamrun() {
     esac
     $split && return
     case $cur in
-        -*) mapfile -t COMPREPLY < <(compgen -W '--columns --workers --threshold --nodes --language --json -h --help' -- "$cur") ;;
+        -*) mapfile -t COMPREPLY < <(compgen -W '--columns --only-named --separator --blank --workers --threshold --nodes --language --json --fail -h --help -V --version' -- "$cur") ;;
         *) _filedir jobs ;;
     esac
 } && complete -F _streamrun streamrun

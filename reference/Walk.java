@@ -1,11 +1,14 @@
 import java.math.BigInteger;
 import java.util.Arrays;
+import java.util.Comparator;
 import java.util.OptionalLong;
+import java.util.function.BiFunction;
 import java.util.function.LongBinaryOperator;
 import java.util.function.LongFunction;
 import java.util.function.LongPredicate;
 import java.util.function.LongUnaryOperator;
 import java.util.function.Supplier;
+import java.util.stream.IntStream;
 import java.util.stream.LongStream;
 
 /**
@@ -106,10 +109,7 @@ final class Walk {
     }
 
     private LongStream scanned(int stage, LongStream items, long[] range, LongBinaryOperator operator) {
-        return LongStream.of(0).flatMap(once -> {
-            LongStream.Builder met = LongStream.builder();
-            long[] values = items.peek(value -> met.add(place)).toArray();
-            long[] places = met.build().toArray();
+        return afterAll(items, (values, places) -> {
             if (range == null) {
                 Arrays.parallelPrefix(values, operator);
             } else {
@@ -119,10 +119,32 @@ final class Walk {
                     throw new Fault("out-of-array", stage, "-");
                 }
             }
-            return LongStream.range(0, values.length).map(at -> {
-                place = places[(int) at];
-                return values[(int) at];
-            });
+            return walk(values, places);
+        });
+    }
+
+    /** The values by `LongStream.sorted`, their places by the stable sort of `Stream`. */
+    LongStream sorted(LongStream items) {
+        return afterAll(items, (values, places) -> {
+            Comparator<Integer> byValue = Comparator.comparingLong(at -> values[at]);
+            long[] moved = IntStream.range(0, values.length).boxed().sorted(byValue).mapToLong(at -> places[at]).toArray();
+            return walk(LongStream.of(values).sorted().toArray(), moved);
+        });
+    }
+
+    /** What comes of all items and their places, which are asked for with the first one that comes out. */
+    private LongStream afterAll(LongStream items, BiFunction<long[], long[], LongStream> function) {
+        return LongStream.of(0).flatMap(once -> {
+            LongStream.Builder met = LongStream.builder();
+            long[] values = items.peek(value -> met.add(place)).toArray();
+            return function.apply(values, met.build().toArray());
+        });
+    }
+
+    private LongStream walk(long[] values, long[] places) {
+        return LongStream.range(0, values.length).map(at -> {
+            place = places[(int) at];
+            return values[(int) at];
         });
     }
 

@@ -96,6 +96,10 @@ def job_in_java(parts):
         elif name == 'prefix':
             numbers, operator = number_and_operator(inner)
             walk = f'walk.prefix({stage}, {walk}, {numbers} {OPERATORS[operator]})'
+        elif name == 'sorted':
+            walk = f'walk.sorted({walk})'
+        elif name == 'distinct':
+            walk += '.distinct()'
         else:
             function = re.sub(r'LongStream\.(range|rangeClosed)\(', r'Walk.\1(', in_java(inner))
             walk += f'.{name}(walk.{WRAPPERS.get(name, "testAt")}({stage}, {function}))'

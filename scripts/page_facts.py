@@ -34,7 +34,8 @@ MESSAGES = [
     ('job_language/src/fault.rt', WRITTEN),
     ('engine/src/fault.rt', WRITTEN),
     ('lambda_values/src/fault.rt', r'=> "([^"]+)"'),
-    ('streamrun/src/main.rt', r'"streamrun: ([^"]+)"'),
+    ('streamrun/src/main.rt', r'(?:"streamrun: |Some\(")([^"]+)"'),
+    ('streamrun/src/advice.rt', r'(?:Some\(|TABLE_OPTION: &str = )"([^"]+)"'),
 ]
 
 

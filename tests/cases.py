@@ -3,7 +3,7 @@
 import collections
 import os
 
-from running import TOP, language, newest_of, read
+from running import TOP, language, newest_of, options_beside, read, table_words, written
 import worked
 
 # `columns` is None for no column file; `options` are the words that the report asks for.
@@ -36,10 +36,10 @@ def example(name, end='report'):
     table = next((it for it in (path, path.rpartition('.')[0]) if os.path.exists(it + '.csv')), None)
     columns = read(table + '.csv') if table else None
     said = read(f'{path}.{end}')
-    out, err, status = (b'', said, 1) if end == 'fault' else (said, b'', 0)
+    out, err, status = (b'', said, 1) if end == 'fault' else written(said)
     jobs = read(path + '.jobs')
-    options = [*language(newest_of(jobs)), *(['--json'] if end == 'json' else [])]
-    return Case(f'{name}.{end}', jobs, columns, options, out, err, status)
+    options = [*language(newest_of(jobs)), *(['--json'] if end == 'json' else []), *table_words(options_beside(path + '.jobs'))]
+    return Case(f'{name}.{end}'.replace('/', ' '), jobs, columns, options, out, err, status)
 
 
 def examples(ends=('report', 'json', 'fault')):
@@ -58,9 +58,9 @@ def all_answers():
     later_out = ''.join(f'w{at} = {answer}\n' for at, (_, answer) in enumerate(worked.LATER_ANSWERS))
     files = [(jobs, out), (f'version 3\n{later_jobs}', later_out), *worked.REPORTS, *worked.LATER_REPORTS]
     for at, (text, newest, report) in enumerate(worked.of_all_versions(files)):
-        yield Case(f'worked answers {at}', text.encode(), worked.COLUMNS, language(newest), report.encode(), b'', 0)
+        yield Case(f'worked answers {at}', text.encode(), worked.COLUMNS, language(newest), *written(report.encode()))
     for at, (text, newest, report) in enumerate(worked.of_all_versions(worked.JSON)):
-        yield Case(f'worked JSON {at}', text.encode(), None, [*language(newest), '--json'], report.encode(), b'', 0)
+        yield Case(f'worked JSON {at}', text.encode(), None, [*language(newest), '--json'], *written(report.encode()))
 
 
 def arguments_of(case, faults):

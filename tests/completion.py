@@ -23,6 +23,9 @@ LINES = [
     ('streamrun --workers=6', 'streamrun --workers=64 '),
     ('streamrun --workers 6', 'streamrun --workers 64 '),
     ('streamrun --threshold=104', 'streamrun --threshold=1048576 '),
+    ('streamrun --separator=t', 'streamrun --separator=tab '),
+    ('streamrun --separator t', 'streamrun --separator tab '),
+    ('streamrun --blank ta', 'streamrun --blank ta'),
     ('streamrun --json=', 'streamrun --json='),
     ('streamrun --json two', r'streamrun --json two\ words.jobs '),
 ]

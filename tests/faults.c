@@ -5,6 +5,7 @@
                          started, and how many of them were made to fail
      FAULTS_ALLOC=K      the K-th allocation fails; K..L: the K-th to the L-th; K..: all from the K-th on
      FAULTS_READ=K       the K-th read fails with EIO
+     FAULTS_CHANGE=K     before the K-th read the file that it reads gets the bytes of the file FAULTS_TO
      FAULTS_WRITE=K      the K-th write to standard output fails with EIO
      FAULTS_OPEN=K       the K-th opening of a file fails with ENOMEM
      FAULTS_THREAD=K     the K-th thread isn't started
@@ -22,6 +23,7 @@
 #include <stdatomic.h>
 #include <stddef.h>
 #include <stdint.h>
+#include <stdio.h>
 #include <stdlib.h>
 #include <string.h>
 #include <sys/mman.h>
@@ -37,8 +39,9 @@ static _Atomic uint64_t own[KINDS], *seen = own;
 static uint64_t from[KINDS], to[KINDS];
 static uint64_t room = UINT64_MAX;
 static int is_short, is_interrupting;
-static uint64_t held, shaking;
+static uint64_t held, shaking, changed;
 static _Atomic unsigned turns;
+static _Atomic uint64_t reads;
 
 /* The functions that these stand before; they are found when they are first called. The allocator of the C library has
    names of its own, which take no look-up. */
@@ -59,6 +62,7 @@ __attribute__((constructor)) static void read_settings(void)
     is_interrupting = getenv("FAULTS_INTERRUPT") != 0;
     if (getenv("FAULTS_HOLD")) held = strtoull(getenv("FAULTS_HOLD"), 0, 10);
     if (getenv("FAULTS_SHAKE")) shaking = strtoull(getenv("FAULTS_SHAKE"), 0, 10);
+    if (getenv("FAULTS_CHANGE")) changed = strtoull(getenv("FAULTS_CHANGE"), 0, 10);
     const char *file = getenv("FAULTS_SEEN");
     int fd = file ? (int) syscall(SYS_openat, AT_FDCWD, file, O_RDWR) : -1;
     if (fd < 0) return;
@@ -135,8 +139,24 @@ static int is_stopped(enum kind kind)
     return 0;
 }
 
+/* Writes the bytes of FAULTS_TO over those of an open file. */
+static void change(int fd)
+{
+    char path[32], bytes[4096];
+    snprintf(path, sizeof path, "/proc/self/fd/%d", fd);
+    int from_here = (int) syscall(SYS_openat, AT_FDCWD, getenv("FAULTS_TO"), O_RDONLY);
+    int to_there = (int) syscall(SYS_openat, AT_FDCWD, path, O_WRONLY | O_TRUNC);
+    long count;
+    while ((count = syscall(SYS_read, from_here, bytes, sizeof bytes)) > 0)
+        if (syscall(SYS_write, to_there, bytes, count) != count) abort();
+    if (count < 0) abort();
+    syscall(SYS_close, from_here);
+    syscall(SYS_close, to_there);
+}
+
 ssize_t read(int fd, void *to_here, size_t size)
 {
+    if (atomic_fetch_add(&reads, 1) + 1 == changed) change(fd);
     if (is_stopped(READ)) return -1;
     return syscall(SYS_read, fd, to_here, is_short && size ? 1 : size);
 }

@@ -7,6 +7,7 @@ import glob
 import os
 import re
 import resource
+import shlex
 import shutil
 import subprocess
 import sys
@@ -18,6 +19,8 @@ TESTS = os.path.dirname(os.path.realpath(__file__))
 TOP = os.path.dirname(TESTS)
 sys.path += [TESTS, *(os.path.join(TOP, *path) for path in (('tests', 'soak'), ('python',), ('tools',), ('reference',)))]
 PROGRAM = os.path.join(TOP, 'crates', 'streamrun', 'out', 'streamrun')
+# What standard error has beside a report of no jobs.
+NO_JOBS = b'streamrun: the job file has no job\n'
 OUT_OF_MEMORY = (b'', b'streamrun: out of memory\n', 3)
 KB, MB = 2 ** 10, 2 ** 20
 NOBODY = 65534
@@ -83,6 +86,11 @@ def job_files():
         yield path, next(filter(os.path.exists, tables), None)
 
 
+def written(report):
+    """What a run that writes this report ends with."""
+    return report, NO_JOBS if report in (b'', b'[]\n') else b'', 0
+
+
 def newest_of(jobs):
     """The least number of `--language` with which a job file may be accepted."""
     return LANGUAGES[-1] if LATER_FILE.match(jobs) else LANGUAGES[0]
@@ -91,6 +99,28 @@ def newest_of(jobs):
 def language(newest):
     """The words that ask for a language; the first one is the default."""
     return [] if newest == LANGUAGES[0] else ['--language', str(newest)]
+
+
+def table_words(table):
+    """The words of a command line by which a table is read, by the options of it."""
+    words = ['--only-named'] if table.get('only_named') else []
+    words += ['--separator', table['separator']] if table.get('separator', ',') != ',' else []
+    return words + ([] if table.get('blank') is None else [f'--blank={table["blank"]}'])
+
+
+def table_of(words):
+    """The options of a table that such words say."""
+    parser = argparse.ArgumentParser(argument_default=argparse.SUPPRESS)
+    parser.add_argument('--only-named', action='store_true')
+    parser.add_argument('--separator')
+    parser.add_argument('--blank', type=int)
+    return vars(parser.parse_args(words))
+
+
+def options_beside(jobs):
+    """The options of the table of a job file: NAME.options beside it has their words, if it isn't read as it is."""
+    path = jobs[:-len('.jobs')] + '.options'
+    return table_of(shlex.split(read(path).decode())) if os.path.exists(path) else {}
 
 
 def sets(user=None, **limits):

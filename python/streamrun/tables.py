@@ -15,6 +15,8 @@ except ImportError:
 LEAST, GREATEST = -2 ** 63, 2 ** 63 - 1
 # The names of columns in a text of jobs, and lines that are comments.
 NAMED, COMMENT = re.compile(r'"([^"\\\r\n]*)"'), re.compile(r'^[ \t]*(#|//).*$', re.M)
+# Numbers in texts.
+INTEGER, DECIMAL = re.compile(r'\s*[+-]?[0-9]+\s*'), re.compile(r'\s*[+-]?[0-9]*[.]?[0-9]+\s*')
 # Digits are written by this many at a time.
 DIGITS = 4
 
@@ -101,15 +103,15 @@ def fault_of(column: Any) -> str:
     kind = getattr(getattr(column, 'dtype', None), 'kind', '')
     values = list(column) if kind == 'M' else column.tolist() if hasattr(column, 'tolist') else list(column)
     faults = [(row, value) for row, value in enumerate(values, 1) if not is_integer(value)] or [(1, values[0] if values else None)]
-    row, value = next((it for it in faults if has_fraction(it[1])), faults[0])
-    missing = '.fillna(0)' if any(is_missing(it) for _, it in faults) else ''
+    row, value = next((it for is_such in (has_fraction, is_text, is_date, is_missing) for it in faults if is_such(it[1])), faults[0])
     shown = value if kind == 'M' else repr(value)
-    return f'has {shown} in row {row}: {cure_for(value, kind, missing)}' if values else f'has no cells, and the type {column.dtype}'
+    return f'has {shown} in row {row}: {cure_for(column, value, faults)}' if values else f'has no cells, and the type {column.dtype}'
 
 
 def is_missing(value: Any) -> bool:
     """Whether a cell has no value."""
-    return value is None or type(value).__name__ in ('NAType', 'NaTType') or isinstance(value, float) and value != value
+    name = type(value).__name__
+    return value is None or name in ('NAType', 'NaTType') or (isinstance(value, float) or name == 'datetime64') and value != value
 
 
 def has_fraction(value: Any) -> bool:
@@ -120,23 +122,52 @@ def has_fraction(value: Any) -> bool:
         return False
 
 
-def cure_for(value: Any, kind: str, missing: str) -> str:
-    """What makes integers of a column x with a cell that is none; missing: what fills the cells without a value."""
-    name = type(value).__name__
+def is_text(value: Any) -> bool:
+    """Whether a cell is a text."""
+    return isinstance(value, (str, bytes))
+
+
+def is_date(value: Any) -> bool:
+    """Whether a cell is a date, perhaps with a time."""
+    return type(value).__name__ in ('datetime', 'date', 'Timestamp', 'datetime64') and not is_missing(value)
+
+
+def cure_for(column: Any, value: Any, faults: list[tuple[int, Any]]) -> str:
+    """What makes integers of a column x, in which a value stands among the cells that are none."""
+    has_missing = any(is_missing(it) for _, it in faults)
     if has_fraction(value):
-        return f"fractions become hundredths by (100 * x{missing}).round().astype('int64')"
-    if is_missing(value) or missing and isinstance(value, float):
-        return "missing values become 0 by x.fillna(0).astype('int64')"
+        if hasattr(column, 'fillna') or hasattr(column, 'astype') and not has_missing:
+            return f"fractions become hundredths by (100 * x{'.fillna(0)' if has_missing else ''}).round().astype('int64')"
+        return f'fractions become hundredths by {each("round(100 * v)", has_missing)}'
+    if is_text(value):
+        return cure_for_texts(column, [it for _, it in faults if not is_missing(it)], has_missing)
+    if is_date(value):
+        days = "numpy.asarray(x, 'datetime64[D]').astype('int64')"
+        return f'dates become days since 1970 by {f"numpy.where(pandas.isna(x), 0, {days})" if has_missing else days}'
+    if is_missing(value):
+        return "missing values become 0 by " + ("x.fillna(0).astype('int64')" if hasattr(column, 'fillna') else each('int(v)', True))
+    integers_by = "x.astype('int64')" if hasattr(column, 'astype') else each('int(v)', False)
+    name = type(value).__name__
     if isinstance(value, bool) or name == 'bool_':
-        return "booleans become 0 and 1 by x.astype('int64')"
-    if kind == 'M' or name in ('datetime', 'date', 'Timestamp', 'datetime64'):
-        return "dates become days since 1970 by numpy.asarray(x, 'datetime64[D]').astype('int64')"
-    if isinstance(value, (str, bytes)):
-        return 'texts become codes by pandas.factorize(x)[0]'
+        return f'booleans become 0 and 1 by {integers_by}'
     if hasattr(value, '__index__'):
         return 'an integer has 64 bits, so keep it in a larger unit'
     is_number = isinstance(value, float) or name == 'Decimal' or name.startswith('float')
-    return "values without fractions become integers by x.astype('int64')" if is_number else 'leave the column out of the jobs'
+    return f'values without fractions become integers by {integers_by}' if is_number else 'leave the column out of the jobs'
+
+
+def each(value: str, has_missing: bool, cells: str = 'x') -> str:
+    """A list with this value for each cell v."""
+    return f'[{"0 if v is None or v != v else " if has_missing else ""}{value} for v in {cells}]'
+
+
+def cure_for_texts(column: Any, texts: list[Any], has_missing: bool) -> str:
+    """What makes integers of a column with texts: their numbers, or codes."""
+    is_filled = has_missing and hasattr(column, 'fillna')
+    for pattern, words, value in ((INTEGER, 'texts of digits become integers', 'int(v)'), (DECIMAL, 'texts become hundredths', 'round(100 * float(v))')):
+        if all(isinstance(it, str) and pattern.fullmatch(it) for it in texts):
+            return f'{words} by {each(value, has_missing and not is_filled, "x.fillna(0)" if is_filled else "x")}'
+    return f'texts become codes by {"pandas.factorize(x)[0]" if hasattr(column, "dtype") else "pandas.Series(x).factorize()[0]"}'
 
 
 def rows_of(columns: list[Any]) -> bytes:

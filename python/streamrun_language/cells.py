@@ -74,13 +74,25 @@ def numbers(cells: Sequence[str], text: str = 'X') -> Tuple[str, str, str]:
     places, largest = places_of(cells), max(abs(Decimal(cell)) for cell in cells)
     if largest > MAX:
         return 'numbers beyond 64 bits', '', ''
-    if not places:
-        return 'integers', '', f'fmtnum(int({text}), "%d")'
     fitting = min(places, MOST_PLACES)
     while fitting > 1 and largest * 10 ** fitting > MOST_EXACT:
         fitting -= 1
-    rounded = f', rounded to {fitting} places' if fitting < places else ''
-    return f'decimals, {places} place{"s" * (places > 1)}', f'keep {kept(fitting)}{rounded}', scaled(text, fitting)
+    if largest * 10 ** fitting > MOST_EXACT and not all(is_exact(cell, fitting) for cell in cells):
+        return 'numbers beyond 2^53, which mlr rounds', '', ''
+    if not places:
+        return 'integers', '', f'fmtnum(int({text}), "%d")'
+    rounded = f', rounded to {plural(fitting, "place")}' if fitting < places else ''
+    return f'decimals, {plural(places, "place")}{rounded}', f'keep {kept(fitting)}{rounded}', scaled(text, fitting)
+
+
+def is_exact(cell: str, places: int) -> bool:
+    """Whether a float holds a number in its smaller unit."""
+    return Decimal(float(cell) * 10 ** places) == Decimal(cell) * 10 ** places
+
+
+def plural(count: int, word: str) -> str:
+    """A number of things."""
+    return f'{count} {word}{"s" * (count != 1)}'
 
 
 def integers(cells: Sequence[str]) -> Optional[Form]:
@@ -99,7 +111,7 @@ def decimals(cells: Sequence[str]) -> Optional[Form]:
         return None
     what, keeps, value = numbers(cells)
     if not value:
-        return Form('too large', what, 'A number has 64 bits: keep it in a larger unit', '')
+        return Form('too large', what, f'There are {what}: keep them in a larger unit', '')
     if keeps:
         return Form('decimals', what, f'A cell is an integer: {keeps}', value)
     how = 'without an exponent' if any('e' in cell.lower() for cell in cells) else 'without .0'

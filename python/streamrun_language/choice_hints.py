@@ -103,6 +103,8 @@ def bare_lambda(site: Site) -> str:
     bars = re.fullmatch(r'\|\s*(\w+)\s*\|\s*(.+)', argument) or re.fullmatch(r'lambda\s+(\w+)\s*:\s*(.+)', argument)
     if bars:
         return f'{bars[1]} -> {bars[2]}'
+    if re.fullmatch(r'-?\d+', argument) and site.inside() in ('anyMatch', 'allMatch', 'noneMatch', 'filter'):
+        return f'x -> x == {argument}'
     if re.match(r'(==|!=|<=?|>=?|%)', argument):
         return f'x -> x {argument}'
     method = re.fullmatch(r'(Math|Long)::(\w+)', argument)

@@ -1,6 +1,6 @@
 """Where and why a job file or a table is refused, for a reader and for editors.
 
-    explain_jobs(jobs, columns, newest)     an Explanation, or None if both are accepted
+    explain_jobs(jobs, columns, newest, ..)     an Explanation, or None if both are accepted; the options of the table last
 
     str(explanation)                the place with a caret, and a hint
     explanation.json()              an object for editors
@@ -10,7 +10,7 @@ from __future__ import annotations
 import json
 import unicodedata
 from dataclasses import dataclass
-from typing import Any, Dict, List, Optional, Tuple
+from typing import Any, Dict, FrozenSet, Iterable, List, Optional, Tuple
 
 from .begin_hints import STRUCTURE
 from .calculations import CALCULATIONS
@@ -24,9 +24,9 @@ from .meaning_hints import LISTED, NAMES, OTHERS
 from .refusals import Cause, RefusedFile, RefusedTable
 from .row_hints import NO_ROW, ROWS_OF_JOBS, ROWS_OF_LAMBDAS, ROWS_OF_OPERATORS
 from .site import Rule, Site
-from .table_hints import TableSite, table_hint
+from .table_hints import TableSite, header_hint, table_hint
 from .table_view import on_one_line
-from .tables import place_of, read_columns
+from .tables import INTEGERS, TableForm, form_for, names_in, place_of, read_columns, record_at, text_of
 from .number_hints import NUMBERS, OF_JOBS, OF_LAMBDAS
 from .type_hints import TYPES
 from .word_hints import BYTES, WORD_RULES
@@ -122,7 +122,10 @@ def goes_on(data: bytes, site: Site, hint: str, newest: int) -> bool:
         list(read_each(made, site.columns or {}, language_after(hint, newest)))
         return True
     except RefusedFile as refused:
-        return (refused.job.line, refused.refused.at) > (site.job.line + added_lines(data, hint), site.refused.at)
+        line = site.job.line + added_lines(data, hint)
+        # What comes after an operation that is left out stands where it stood.
+        is_left_out = ' leave `.' in hint and len(refused.job.text) - refused.refused.at < len(site.job.text) - site.refused.at
+        return refused.job.line == line and is_left_out or (refused.job.line, refused.refused.at) > (line, site.refused.at)
 
 
 def rule_of(data: bytes, site: Site, newest: int) -> Rule:
@@ -130,23 +133,23 @@ def rule_of(data: bytes, site: Site, newest: int) -> Rule:
     return next((rule for rule in RULES[site.refused.cause] if rule.applies(site) and goes_on(data, site, rule.hint(site), newest)), ANY)
 
 
-def explain_job_file(data: bytes, columns: Optional[Dict[str, Any]], file: str, newest: int) -> Optional[Explanation]:
+def explain_job_file(data: bytes, columns: Optional[Dict[str, Any]], file: str, newest: int, header: str = '') -> Optional[Explanation]:
     """Why a job file is refused; columns: the names of the table, or None without one; newest: the newest version that is
-    read."""
+    read; header: what is wrong with the header of the table."""
     earlier: Dict[str, Job] = {}
     try:
         for job in read_each(data, columns or {}, newest):
             earlier[job.name] = job
         return None
     except RefusedFile as refused:
-        return explain_job(data, refused, earlier, columns, file, newest)
+        return explain_job(data, refused, earlier, columns, file, newest, header)
 
 
-def explain_job(data: bytes, refused: RefusedFile, earlier: Dict[str, Job], columns, file: str, newest: int) -> Explanation:
+def explain_job(data: bytes, refused: RefusedFile, earlier: Dict[str, Job], columns, file: str, newest: int, header: str) -> Explanation:
     """Why a job is refused, after those above it."""
     job, cause = refused.job, refused.refused
     line, column = job.position(cause.at)
-    site = Site(job, cause, lines_or_none(data, newest), earlier, columns, line_below(data, job.starts[-1][1]))
+    site = Site(job, cause, lines_or_none(data, newest), earlier, columns, line_below(data, job.starts[-1][1]), header)
     hint = rule_of(data, site, newest).hint(site)
     made = followed(data, job, cause.at, hint)
     return Explanation(file, line, column, str(refused), hint, lines_of(data)[line - 1], followed=made,
@@ -161,30 +164,40 @@ def lines_or_none(data: bytes, newest: int) -> Lines:
         return read_lines(b'')
 
 
-def explain_table(data: bytes, file: str) -> Tuple[Optional[Dict[str, List[int]]], Optional[Explanation]]:
-    """The cells of a table, or why it is refused."""
+def explain_table(data: bytes, file: str, form: TableForm = INTEGERS, named: FrozenSet[str] = frozenset()) \
+        -> Tuple[Optional[Dict[str, List[int]]], Optional[Explanation]]:
+    """The cells of a table, or why it is refused; named: the columns that jobs name."""
     try:
-        return read_columns(data), None
+        return read_columns(data, form), None
     except RefusedTable as refused:
-        place = place_of(data, refused)
-        site = TableSite(data, refused, place)
+        place = place_of(data, refused, form)
+        site = TableSite(data, refused, place, form, named)
         cell = Cell(refused.row, site.name, site.cell) if refused.row and refused.column else None
         text = place.text.encode('latin-1')
         return None, Explanation(file, place.line, place.column, str(refused), table_hint(site), text, cell)
 
 
-def table_refused(data: bytes) -> bool:
-    """Whether a table is refused."""
-    return explain_table(data, '')[1] is not None
-
-
-def explain_jobs(jobs: bytes, columns: Optional[bytes] = None, jobs_file: str = 'JOBS', columns_file: str = 'FILE',
-                 newest: int = NEWEST) -> Optional[Explanation]:
-    """Why the program refuses these bytes, the table first, or None if it accepts them; the files are named so, and newest is
-    the newest version of job files that is read."""
-    cells = None
+def explain_jobs(jobs: bytes, columns: Optional[bytes] = None, jobs_file: str = 'JOBS', columns_file: str = 'FILE', newest: int = NEWEST,
+                 names: Optional[Iterable[str]] = None, **table: Any) -> Optional[Explanation]:
+    """Why the program refuses these bytes, the table first, or None if it accepts them; the files are named so, newest is the
+    newest version of job files that is read, and table has the options by which the table is read, as form_for takes them. For a
+    table that is no file names are its columns; their cells aren't known."""
+    cells, header = None if names is None else dict.fromkeys(name.encode().decode('latin-1') for name in names), ''
     if columns is not None:
-        cells, refused = explain_table(columns, columns_file)
+        form = form_for(jobs, newest, **table)
+        cells, refused = explain_table(columns, columns_file, form, names_in(jobs, newest))
         if refused:
             return refused
-    return explain_job_file(jobs, cells, jobs_file, newest)
+        known = [field.text for field in record_at(text_of(columns), 0, form.separator)]
+        header = header_hint(columns, form, len(known)) if is_unknown(jobs, cells, newest) else ''
+        cells = {**dict.fromkeys(known), **cells}
+    return explain_job_file(jobs, cells, jobs_file, newest, header)
+
+
+def is_unknown(jobs: bytes, cells: Dict[str, Any], newest: int) -> bool:
+    """Whether a job file is refused for a column that isn't there."""
+    try:
+        list(read_each(jobs, cells, newest))
+    except RefusedFile as refused:
+        return refused.refused.cause is Cause.UNKNOWN_COLUMN
+    return False

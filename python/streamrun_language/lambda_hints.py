@@ -163,6 +163,8 @@ EXPRESSIONS = [
          lambda s: f'A product is written with *: {instead(f"{s.word(-1)} * {s.word()}", s.word(-1) + s.word())}.'),
     Rule('parted symbol', parted_symbol, lambda s: f'No blank stands inside: {instead(parted_symbol(s), text(s, s.index - 1, s.index))}.'),
     Rule('unequal', lambda s: s.word(-1) + s.word() == '<>', f'Unequal is written !=: {instead("!=", "<>")}.'),
+    Rule('order', lambda s: s.word() == '=' and s.word(1) in ('<', '>'),
+         lambda s: f'A comparison ends with =: {instead(s.word(1) + "=", "=" + s.word(1))}.'),
     Rule('equality', lambda s: s.word() == '=', lambda s: f'Equality is written ==: {instead(*equality(s))}.'),
     Rule('power', lambda s: s.word() == '*' and s.word(-1) == '*', power_hint),
     Rule('floor division', lambda s: s.word() == '/' and s.word(-1) == '/', floor_hint),

@@ -14,6 +14,7 @@ from .operators import EXACT, METHODS, OPERATORS
 from .refusals import Cause
 from .row_hints import OTHER_CELL, other_cell
 from .site import Rule, Sentence, Site, listed, nearest
+from .table_view import shown
 from .values import CALLS, CONSTANTS, MAX, MIN, Fault, exact
 
 SAMPLES = (MIN, -7, -1, 0, 1, 5, 12, 2 ** 40, MAX)
@@ -182,9 +183,12 @@ def column_hint(site: Site) -> str:
     """What to write for a column that isn't there."""
     if site.columns is None:
         return 'No table is given: name it by --columns FILE.'
-    near = nearest(site.about, list(site.columns))
-    names = ', '.join(f'"{it}"' for it in list(site.columns)[:8]) + (', ..' if len(site.columns) > 8 else '')
-    return f'The table has no such column: {quoted(near, site.about)}' if near else f'The columns of the table are {names}.'
+    if site.header:
+        return site.header
+    name, columns = shown(site.about), list(map(shown, site.columns))
+    near = nearest(name, columns)
+    names = ', '.join(f'"{it}"' for it in columns[:8]) + (', ..' if len(columns) > 8 else '')
+    return f'The table has no such column: {quoted(near, name)}' if near else f'The columns of the table are {names}.'
 
 
 def job_hint(site: Site) -> str:

@@ -1,6 +1,6 @@
 """What streamrun has to write: answers of jobs, and reports.
 
-    outcome(jobs, columns, form, newest)     the bytes of standard output and of standard error, and the status
+    outcome(jobs, columns, form, newest, table)     the bytes of standard output and of standard error, and the status
 
 Nothing of it is taken from the program: it is slow, has no pieces, batches or threads, and so can't share a mistake with
 them.
@@ -15,9 +15,13 @@ from .jobs import Job, read_jobs
 from .lines import NEWEST
 from .operators import EXACT
 from .refusals import RefusedFile, RefusedTable
-from .tables import read_columns
+from .tables import form_for, read_columns
 from .values import MAX, MIN, wrap
 from .walks import Items, Selection, WalkFault, lambda_at, parts_of, walk
+
+
+# What standard error has beside a report of no jobs.
+NO_JOBS = b'streamrun: the job file has no job\n'
 
 
 class Form(Enum):
@@ -158,12 +162,13 @@ def report(answers: Dict[str, Answer], form: str) -> str:
     return ''.join(f'{name} = {text_of(answer)}\n' for name, answer in answers.items())
 
 
-def outcome(jobs: bytes, columns: Optional[bytes] = None, form: str = 'text', newest: int = NEWEST) -> Tuple[bytes, bytes, int]:
+def outcome(jobs: bytes, columns: Optional[bytes] = None, form: str = 'text', newest: int = NEWEST,
+            table: Optional[Dict[str, Any]] = None) -> Tuple[bytes, bytes, int]:
     """Standard output, standard error and status of a run over these bytes; columns: None if no file is given; newest: the
-    newest version of job files that is read."""
+    newest version of job files that is read; table: the options by which the column file is read, as form_for takes them."""
     try:
-        cells = {} if columns is None else read_columns(columns)
-        written = report(answers_of(read_jobs(jobs, cells, newest), cells), form)
+        cells = {} if columns is None else read_columns(columns, form_for(jobs, newest, **table or {}))
+        answers = answers_of(read_jobs(jobs, cells, newest), cells)
     except (RefusedTable, RefusedFile) as refused:
         return b'', f'streamrun: {refused}\n'.encode(), 1
-    return written.encode(), b'', 0
+    return report(answers, form).encode(), b'' if answers else NO_JOBS, 0

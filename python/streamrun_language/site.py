@@ -16,7 +16,7 @@ CLOSE_ENOUGH = 0.6
 @dataclass
 class Site:
     """The place of a refusal. earlier: the jobs above; columns: the cells of the table, or None without one; below: the
-    line after the job, without blanks before it."""
+    line after the job, without blanks before it; header: what is wrong with the header of the table, or nothing."""
 
     job: JobText
     refused: Refused
@@ -24,6 +24,7 @@ class Site:
     earlier: Dict[str, Job]
     columns: Optional[Mapping[str, Sequence[int]]]
     below: bytes
+    header: str = ''
 
     def __post_init__(self):
         self.tokens: List[Token] = cut(self.job.text)

@@ -5,7 +5,7 @@ import re
 from fractions import Fraction
 from typing import List, Optional
 
-from .jobs import read_job
+from .jobs import Column, read_job
 from .model import answers_of
 from .operands import asked_for, call_at, closing, instead, opening, source_name, text, without
 from .refusals import Refused
@@ -23,7 +23,7 @@ MOST_COUNTED = 10 ** 6
 RISING = re.compile(r'(Comparator\.)?naturalOrder\(\)|Long::compare(To)?|\((\w+), ?(\w+)\) -> (\3 - \4|Long\.compare\(\3, \4\))'
                     r'|(\w+) -> \6|ascending ?= ?True|reverse ?= ?False')
 FALLING = re.compile(r'(Comparator|Collections)\.reverseOrder\(\)|\((\w+), ?(\w+)\) -> (\3 - \2|Long\.compare\(\3, \2\))'
-                     r'|(\w+) -> -\5|ascending ?= ?False|reverse ?= ?True')
+                     r'|(\w+) -> -\5|ascending ?= ?False|reverse ?= ?True|"?(desc|DESC|descending)"?')
 
 
 def items_before(site: Site, at: int) -> Optional[int]:
@@ -33,7 +33,7 @@ def items_before(site: Site, at: int) -> Optional[int]:
         job = read_job(begun + b'.count()', site.lines.version, site.columns or (), dict(site.earlier))
     except Refused:
         return None
-    has_cells = all(cells is not None for cells in (site.columns or {}).values())
+    has_cells = all((site.columns or {}).get(source.name) is not None for source in job.sources if isinstance(source, Column))
     if list(job.names()) or not has_cells or sum(map(length_of, parts_of(job, dict(site.columns or {}), {}))) > MOST_COUNTED:
         return None
     answer = answers_of([job], dict(site.columns or {}))[job.name]
@@ -134,6 +134,8 @@ def stage_hint(site: Site, at: int) -> str:
     word, end = site.tokens[at].text, end_at(site, at)
     operands = call_at(site, at + 1)[1] if end > at else []
     cure, old = written(site, at), text(site, at - 1, end)
+    if word in ('reversed', 'reverse') and text(site, max(at - 5, 0), at - 1) == '.sorted().':
+        cure, old = DOWN, text(site, at - 5, end)
     head = f'{word} takes nothing' if word in LATER_STAGES else f'There is no .{word}()'
     if word in LATER_STAGES and not operands:
         return f'{word} is of version 3: write{asked_for(site)[1:]}.' if asked_for(site) else ''

@@ -48,7 +48,7 @@ STAGES = {
     **dict.fromkeys(('unique', 'uniq', 'drop_duplicates', 'nub', 'toSet'), '.distinct()'),
     **dict.fromkeys(('nunique', 'countDistinct'), '.distinct().count()'), 'nsmallest': UP + '.limit({0})',
     **dict.fromkeys(('top', 'topN', 'nlargest'), DOWN + '.limit({0})'),
-    **dict.fromkeys(('sortedDescending', 'sortDescending', 'orderByDescending'), DOWN),
+    **dict.fromkeys(('sortedDescending', 'sortDescending', 'sortDesc', 'orderByDescending', 'orderByDesc'), DOWN),
     # What integers don't need.
     **dict.fromkeys(('boxed', 'parallel', 'sequential', 'unordered', 'asLongStream', 'stream', 'onClose', 'close', 'asDoubleStream',
                      'fillna', 'dropna', 'astype', 'toLong', 'longValue', 'intValue', 'nonNull', 'peek', 'compute', 'values'), ''),

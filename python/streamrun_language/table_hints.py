@@ -4,12 +4,12 @@ from __future__ import annotations
 import re
 from dataclasses import dataclass
 from functools import cached_property
-from typing import Callable, NamedTuple, Optional, Union
+from typing import Callable, FrozenSet, NamedTuple, Optional, Union
 
 from .cells import is_missing
 from .refusals import RefusedTable, TableCause
-from .table_view import SEPARATORS, Column, View, look_at, on_one_line, plural, shown
-from .tables import Place
+from .table_view import SEPARATORS, WORDS, Column, View, look_at, on_one_line, plural, shown
+from .tables import INTEGERS, Place, TableForm
 
 UNPACKED_BY = {b'\x1f\x8b': 'zcat', b'BZh': 'bzcat', b'\xfd7zXZ': 'xzcat', b'\x28\xb5\x2f\xfd': 'zstdcat'}
 JOBS = re.compile(rb'\s*((#|//)[^\n]*\s+)*(version 2\s+)?[A-Za-z_]\w*\s*=\s*[A-Za-z.]+\(')
@@ -18,11 +18,14 @@ ALL_COLUMNS = ' For all columns at once: tools/explain --columns FILE.'
 
 @dataclass
 class TableSite:
-    """The place at which a table is refused: its cell and the name of its column, as a reader sees them."""
+    """The place at which a table is refused: its cell and the name of its column, as a reader sees them. form: how the table is
+    read; named: the columns that the jobs name."""
 
     data: bytes
     refused: RefusedTable
     place: Place
+    form: TableForm = INTEGERS
+    named: FrozenSet[str] = frozenset()
 
     def __post_init__(self):
         at = max(self.refused.column, 1) - 1
@@ -30,34 +33,57 @@ class TableSite:
         self.cell = shown(cells[at]) if at < len(cells) else ''
         self.name = shown(header[at]) if at < len(header) else ''
         self.shown_name = on_one_line(self.name)
+        self.is_named = at < len(header) and header[at] in self.named
 
     @cached_property
     def view(self) -> View:
         """What the whole table holds."""
-        return look_at(self.data)
+        return view_of(self.data, self.form, len(self.place.header))
+
+    def is_bad_cell(self) -> bool:
+        """Whether a cell is no number."""
+        return self.refused.cause is TableCause.BAD_NUMBER
 
     def column(self) -> Optional[Column]:
         """The column of a cell that is no number."""
-        is_there = self.refused.cause is TableCause.BAD_NUMBER and self.refused.column <= len(self.view.columns)
+        is_there = self.is_bad_cell() and self.refused.column <= len(self.view.columns)
         return self.view.columns[self.refused.column - 1] if is_there else None
 
-    def first_name(self) -> str:
-        """The name of the first column."""
-        return on_one_line(shown(self.place.header[0]))
+    def is_kept_out(self) -> bool:
+        """Whether no job names the column, and all are looked at."""
+        return self.form.names is None and not self.is_named
 
-    def is_last_with_totals(self) -> bool:
-        """Whether the row is the last one, with the totals of those above."""
-        return self.view.has_totals and self.refused.row == self.view.rows
+    def has_totals(self) -> bool:
+        """Whether the last row has totals, and would be read as a row like others."""
+        return self.view.has_totals and self.is_bad_cell() and (self.refused.row == self.view.rows or self.is_kept_out())
 
     def by(self, *columns: Column) -> str:
         """The command for some columns, what else it does, and where the one for all is."""
-        others = [it for it in self.view.columns if it.name not in [done.name for done in columns] and (it.is_lost() or it.value())]
+        others = [it for it in self.view.columns if it.name not in [done.name for done in columns] and not it.is_lost() and it.value()]
         totals = f' Row {self.view.rows} has totals, and is left out.' if self.view.has_totals and columns else ''
-        return f'`{self.view.command(list(columns))}`.{totals}' + (ALL_COLUMNS if others else '')
+        return f'`{self.view.made_by(list(columns))}`.{totals}' + (ALL_COLUMNS if others else '')
 
-    def by_cutting(self) -> str:
-        """The command that leaves the column out."""
-        return self.by(Column(self.shown_name, None, {}, {}, False))
+
+def view_of(data: bytes, form: TableForm, width: int) -> View:
+    """What a table holds that is read in a form; width: how many names its header has then. The sign between cells is another one
+    if it has one name."""
+    return look_at(data, separator=form.separator if width > 1 else None)
+
+
+def header_hint(data: bytes, form: TableForm, width: int) -> str:
+    """What is wrong with the header of a table that is read in a form, or nothing: another separator, lines above it."""
+    view = view_of(data, form, width)
+    if view.above:
+        return f'The header is line {view.above + 1}, and not the first one: `{view.lines_left()[0]}`.'
+    if width == 1 and view.separator != form.separator:
+        here = f'Cells are parted by {sign_in_words(form.separator)}, and here by {sign_in_words(view.separator)}: '
+        return here + ('leave --separator out.' if view.separator == ',' else f'run with `--separator {WORDS[view.separator]}`.')
+    return ''
+
+
+def sign_in_words(sign: str) -> str:
+    """A sign between cells in words."""
+    return 'commas' if sign == ',' else f'the sign {SEPARATORS[sign]}'
 
 
 class TableRule(NamedTuple):
@@ -86,18 +112,17 @@ def length_hint(site: TableSite) -> str:
         return counts + r"delete the comma at the end of the line, `sed 's/,\r*$//' FILE`."
     if found > wanted:
         return counts + 'a comma inside a cell wants double quotes around the cell, and one inside a number has to go.'
-    return counts + f'write the cells that are missing, or 0: `{site.view.command([])}`.'
+    return counts + f'write the cells that are missing, or 0: `{site.view.made_by([])}`.'
 
 
 def missing_hint(site: TableSite) -> str:
     """What to do about a cell without a value."""
-    column, word = site.column(), site.cell.strip()
+    column, word = site.column(), site.cell.strip(' \t')
     count = plural(len(column.missing[word]), f'cell "{word}"' if word else 'empty cell')
-    if not word and column.form.value == 'X' and not site.view.has_totals and not column.is_padded:
-        command = '`mlr --csv fill-empty -v 0 FILE`.' + (ALL_COLUMNS if site.view.lost() else '')
-    else:
-        command = site.by(column)
-    return f'Each cell has a number, and this column has {count}: write 0 or another number, {command}'
+    begun = f'Each cell has a number, and this column has {count}: '
+    if column.has_blanks():
+        return begun + 'run with `--blank 0`, or another number, as which they count.'
+    return begun + f'write 0 or another number, {site.by(column)}'
 
 
 def odd_hint(site: TableSite) -> str:
@@ -112,7 +137,7 @@ def form_hint(site: TableSite) -> str:
     """What to write for all cells of the column."""
     column = site.column()
     if column.is_lost():
-        return f'{column.form.sentence}, or leave the column out: {site.by_cutting()}'
+        return f'{column.form.sentence}, or leave the column out of the jobs.'
     return f'{column.form.sentence}: {site.by(column)}'
 
 
@@ -129,47 +154,45 @@ FILES = [
               'This looks like a job file: the table is the file after --columns, and the job file the other one.'),
     TableRule('no header', lambda s: s.refused.cause is TableCause.NO_HEADER,
               'The file is empty: its first line has the names of the columns, with commas between them.'),
-    TableRule('lines above', lambda s: s.view.above,
-              lambda s: f'The header is line {s.view.above + 1}, and not the first one: `{s.view.command()}`.'),
-    TableRule('separator', lambda s: len(s.place.header) == 1 and s.view.separator != ',',
-              lambda s: f'Cells are parted by commas, and here by the sign {SEPARATORS[s.view.separator]}: '
-                        f'`{s.view.command()}`.'),
+    TableRule('header', lambda s: header_hint(s.data, s.form, len(s.place.header)), lambda s: header_hint(s.data, s.form, len(s.place.header))),
     TableRule('too many columns', lambda s: s.refused.cause is TableCause.TOO_MANY,
-              lambda s: f"Keep the columns that jobs name, such as `mlr --csv cut -f '{s.first_name()}' FILE`."),
+              lambda s: 'Run with `--only-named`: the columns that jobs name are counted alone.' if s.form.names is None else
+              'Name at most 256 columns in a job file, and the others in another file.'),
     TableRule('names that are numbers', lambda s: s.refused.cause is TableCause.SAME_NAME
               and re.fullmatch(r'\s*-?[\d.]+\s*', s.cell),
               'The first line has the names of the columns, and here numbers: put a line of names before them, or '
               'call the columns 1, 2 and so on, `mlr --csv --implicit-csv-header cat FILE`.'),
+    TableRule('same name of other columns', lambda s: s.refused.cause is TableCause.SAME_NAME and s.is_kept_out(),
+              lambda s: f'Two columns are called "{s.shown_name}", and no job names them: run with `--only-named`.'),
     TableRule('same name', lambda s: s.refused.cause is TableCause.SAME_NAME,
               lambda s: f'Two columns are called "{s.shown_name}": rename one of them in the first line, or call it '
                         f'"{s.shown_name}_2" by `mlr --csv cat FILE`.'),
 ]
 
 ROWS = [
-    TableRule('comment line', lambda s: s.place.text.startswith(('#', '//')),
-              lambda s: f'A table has no comments: delete them by `{s.view.command() if s.view.has_comments else GREP}`.'),
-    TableRule('open quote', lambda s: any('\n' in it or '\r' in it for it in s.place.cells),
+    TableRule('comment line', lambda s: s.view.has_comments,
+              lambda s: f'A table has no comments, and a line that begins with # is a row: delete them by `{" | ".join(s.view.lines_left())}`.'),
+    TableRule('open quote', lambda s: any('\n' in it or '\r' in it for it in s.place.cells) and not (s.is_bad_cell() and s.is_kept_out()),
               'A double quote begins a cell that goes on over lines: close it, or delete it.'),
-    TableRule('totals', lambda s: s.is_last_with_totals(),
-              lambda s: f'Row {s.refused.row} is the last one, and has totals of those above: leave it out, '
-                        f'{s.by()}'),
+    TableRule('totals', lambda s: s.has_totals(),
+              lambda s: f'Row {s.view.rows} is the last one, and has totals of those above: leave it out, {s.by()}'),
     TableRule('length', lambda s: s.refused.cause is TableCause.WRONG_LENGTH, length_hint),
 ]
 
 CELLS = [
+    TableRule('column that no job names', lambda s: s.is_kept_out(),
+              'No job names this column: run with `--only-named`, and the columns that jobs name are looked at alone.'),
     TableRule('no-break space', lambda s: '\u00a0' in s.cell and re.fullmatch(r'[+-]?\d+', s.cell.strip()),
               'The cell has a no-break space: delete them by `sed "s/\\xc2\\xa0//g" FILE`.'),
     TableRule('missing value', lambda s: s.column() and s.column().form and is_missing(s.cell), missing_hint),
     TableRule('odd cell', lambda s: s.column() and s.refused.row in s.column().odd, odd_hint),
     TableRule('form', lambda s: s.column() and s.column().form, form_hint),
     TableRule('blank column', lambda s: s.column() and s.column().is_blank,
-              lambda s: f'No cell of the column has a number, and this one has "{s.cell.strip()}": leave it out by {s.by_cutting()}'),
+              lambda s: f'No cell of the column has a number, and this one has "{s.cell.strip()}": leave the column out of the jobs.'),
     TableRule('text', lambda s: True,
-              lambda s: 'A cell is a 64-bit integer and no text: replace the texts by codes (docs/tables.md), or leave the '
-                        f'column out by {s.by_cutting()}'),
+              'A cell is a 64-bit integer and no text: replace the texts by codes (docs/tables.md), or leave the column out of the jobs.'),
 ]
 TABLE_RULES = [*FILES, *ROWS, *CELLS]
-GREP = 'grep -v "^#" FILE'
 
 
 def table_hint(site: TableSite) -> str:

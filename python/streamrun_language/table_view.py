@@ -1,7 +1,9 @@
-"""A whole table at a glance: what each column holds, and the one command that makes integers of it.
+"""A whole table at a glance: what each column holds, and the one command that reads it.
 
-    look_at(data, file)      a View; str(view) is what a reader sees; file: its name in the command
-    view.command()           the command, or nothing if the table is read as it is
+    look_at(data, file, separator)   a View; str(view) is what a reader sees; file: its name in the command
+    view.command()                   the command, or nothing if the table is read without options
+    view.made_by(columns)            the command of another tool that makes integers of some columns, or nothing
+    open_quote(text, separator)      the row with a double quote that never closes, or None
 """
 from __future__ import annotations
 
@@ -10,14 +12,18 @@ from collections import Counter
 from dataclasses import dataclass, field
 from typing import Any, Dict, List, Optional
 
-from .cells import Form, form_of, is_missing
+from .cells import Form, form_of, is_missing, plural
 from .tables import fields_of, records_of, text_of
 
+# Signs between cells besides the comma, as mlr calls them, and as a word of the shell for the option.
 SEPARATORS = {';': 'semicolon', '\t': 'tab', '|': 'pipe'}
+WORDS = {';': "';'", '\t': 'tab', '|': "'|'"}
+NO_CELLS = Form('integers', 'no cells', '', 'X')
 # Forms whose cells mlr takes for numbers.
 NUMERIC = ('decimals', 'integral')
 MOST_OF_A_NAME, MOST_HEAD, MOST_ODD, MOST_SHOWN, MOST_LOOKED_AT = 60, 10, 3, 40, 100000
 INTEGER = re.compile(r'-?\d+')
+NEVER_CLOSES = 'a double quote in row {} never closes, and all that stands below it is one cell'
 TOTALS = re.compile(r'(grand |sub)?totals?|sum|summe|gesamt|insgesamt|totale?|summa|overall', re.I)
 
 
@@ -32,11 +38,6 @@ def on_one_line(text: str) -> str:
     return line if len(line) <= MOST_OF_A_NAME else line[:MOST_OF_A_NAME] + '..'
 
 
-def plural(count: int, word: str) -> str:
-    """A number of things."""
-    return f'{count} {word}{"s" * (count != 1)}'
-
-
 def quoted(text: str) -> str:
     """A text as a word of the shell."""
     return "'{}'".format(text.replace("'", "'\\''"))
@@ -45,8 +46,8 @@ def quoted(text: str) -> str:
 @dataclass
 class Column:
     """A column: its name; the form of the cells that have a value, or None for text; what is missing, by its spelling with
-    the rows; the rows of few cells that have no form, with their texts; whether all cells are blank, and whether a cell has
-    blanks around its value."""
+    the rows; the rows of few cells that have no form, with their texts; whether no cell has a value, and whether one has
+    blanks around it."""
 
     name: str
     form: Optional[Form]
@@ -59,9 +60,15 @@ class Column:
         """The column in the language of mlr put."""
         return '${%s}' % self.name
 
+    def has_blanks(self) -> bool:
+        """Whether its cells are read as they are, but for blank ones."""
+        return bool(self.form) and self.form.value == 'X' and list(self.missing) == ['']
+
     def value(self) -> str:
-        """The integer of a cell in that language: nothing if it is read as it is."""
+        """The integer of a cell in that language: nothing if it is read as it is, perhaps with a number for blank cells."""
         field, value = self.field(), self.form.value if self.form else ''
+        if self.has_blanks():
+            return ''
         text = f'strip(string({field}))' if self.is_padded else f'string({field})'
         tests = [f'is_empty({field})' if not word and not self.is_padded else f'{text} == "{word}"' for word in self.missing]
         if self.is_padded and value != 'X':
@@ -97,13 +104,15 @@ def odd_of(cells: List[str]) -> List[str]:
 
 def column_of(name: str, cells: List[str]) -> Column:
     """What a column holds."""
+    if not cells:
+        return Column(name, NO_CELLS, {}, {}, False)
     distinct = list(dict.fromkeys(cells))
     words = {cell for cell in distinct if is_missing(cell)}
     present = [cell for cell in distinct if cell not in words]
     missing: Dict[str, List[int]] = {}
     for row, cell in enumerate(cells, 1) if words else ():
         if cell in words:
-            missing.setdefault(cell.strip(), []).append(row)
+            missing.setdefault(cell.strip(' \t'), []).append(row)
     form, odd = form_of(present), {}
     if not form and present:
         least = set(odd_of(present))
@@ -118,7 +127,8 @@ def column_of(name: str, cells: List[str]) -> Column:
 @dataclass
 class View:
     """A table: the sign between its cells; lines above its header; lines that begin with #; its columns; how many rows it
-    has, how many are shorter or longer than the header, the first of them; and whether its last row has totals."""
+    has, how many are shorter or longer than the header, the first of them; whether its last row has totals; and the row of
+    a double quote that never closes."""
 
     separator: str = ','
     above: int = 0
@@ -129,6 +139,7 @@ class View:
     long: List[int] = field(default_factory=list)
     has_totals: bool = False
     same: List[str] = field(default_factory=list)
+    open: Optional[int] = None
     file: str = 'FILE'
 
     def lost(self) -> List[Column]:
@@ -138,26 +149,39 @@ class View:
     def verbs(self, columns: List[Column]) -> List[str]:
         """What mlr does to make integers of some columns."""
         values = {it.field(): it.value() for it in columns if not it.is_lost()}
-        lost = [it for it in columns if it.is_lost()]
         puts = [f'{name} = {value}' for name, value in values.items() if value]
-        puts += [f'unset {it.field()}' for it in lost if ',' in it.name]
-        cut = ','.join(it.name for it in lost if ',' not in it.name)
         odd = sorted({row for column in columns for row in column.odd})
         return [*(['fill-empty -v 0'] if self.short else []), *([f'head -n {self.rows - 1}'] if self.has_totals else []),
                 *(['filter ' + quoted(' && '.join(f'NR != {row}' for row in odd))] if odd else []),
-                *([f'put {quoted("; ".join(puts))}'] if puts else []), *([f'cut -x -f {quoted(cut)}'] if cut else [])]
+                *([f'put {quoted("; ".join(puts))}'] if puts else [])]
 
-    def command(self, columns: Optional[List[Column]] = None) -> str:
-        """The command that makes integers of some columns, or of all: a table without the others, which are left out."""
-        verbs = self.verbs(self.columns if columns is None else columns)
-        form = '--csv' if self.separator == ',' else f'--icsv --ifs {SEPARATORS[self.separator]} --ocsv'
-        ragged = ' --allow-ragged-csv-input' if self.short else ''
-        before = [f'tail -n +{self.above + 1} {self.file}'] if self.above else []
-        before += ['grep -v "^#"' + ('' if before else f' {self.file}')] if self.has_comments else []
-        mlr = f'mlr {form}{ragged} {" then ".join(verbs or ["cat"])}'
-        if before:
-            return ' | '.join([*before, *([mlr] if verbs or self.separator != ',' or self.same else [])])
-        return f'{mlr} {self.file}' if verbs or self.separator != ',' or self.same else ''
+    def lines_left(self) -> List[str]:
+        """The commands that leave out the lines that are neither header nor rows, one after another."""
+        first = [f'tail -n +{self.above + 1} {self.file}'] if self.above else []
+        return first + (['grep -v "^#"' + ('' if first else f' {self.file}')] if self.has_comments else [])
+
+    def made_by(self, columns: List[Column]) -> str:
+        """The command that makes integers of some columns, and leaves out what is no row; nothing if there is nothing to do. The
+        sign between cells stays."""
+        verbs, first = self.verbs(columns), self.lines_left()
+        if not verbs and not self.same:
+            return ' | '.join(first)
+        form = '--csv' if self.separator == ',' else f'--csv --fs {SEPARATORS[self.separator]}'
+        mlr = f'mlr {form}{" --allow-ragged-csv-input" if self.short else ""} {" then ".join(verbs or ["cat"])}'
+        return ' | '.join([*first, mlr if first else f'{mlr} {self.file}'])
+
+    def options(self) -> List[str]:
+        """The options by which the table is read, after that command."""
+        return [*(['--only-named'] if self.lost() else []), *([f'--separator {WORDS[self.separator]}'] if self.separator != ',' else []),
+                *(['--blank 0'] if any(it.has_blanks() for it in self.columns) else [])]
+
+    def command(self) -> str:
+        """The command that reads the table, or nothing if it wants no option and no other tool."""
+        made, options = self.made_by(self.columns), self.options()
+        if not made and not options:
+            return ''
+        run = ' '.join(['streamrun', *options, '--columns', '/dev/stdin' if made else self.file, 'JOBS'])
+        return f'{made} | {run}' if made else run
 
     def lines(self) -> List[str]:
         """What is said of the table as a whole."""
@@ -173,26 +197,42 @@ class View:
         for rows, what in ((self.short, 'shorter'), (self.long, 'longer')):
             said.extend([f'{plural(len(rows), "row")} from row {rows[0]} on {"is" if len(rows) == 1 else "are"} {what} than the header']
                         if rows else [])
+        said += [] if self.open is None else [NEVER_CLOSES.format(self.open)]
         return said + (['the last row has totals'] if self.has_totals else [])
 
     def __str__(self):
-        command = self.command()
-        lost = ', '.join(on_one_line(it.name) for it in self.lost())
-        ends = ['', 'The table is read as it is.'] if not command else ['', command]
-        if self.long:
-            ends = ['', 'Put double quotes around cells with a comma, and look again.']
+        command, ends = self.command(), ['']
+        if self.open is not None:
+            ends.append('Close the double quote, and look again.')
+        elif self.long:
+            ends.append('Put double quotes around cells with a separator in them, and look again.')
+        else:
+            ends.append(command or 'The table is read as it is.')
         odd = ', '.join(map(str, sorted({row for column in self.columns for row in column.odd})))
         if odd:
             ends.append(f'Left out: row {odd}, which has a cell that is no number.')
-        if lost:
-            ends.append(f'Left out: {lost}. Codes for texts: docs/tables.md.')
+        if self.lost():
+            ends.append(f'Not read: {", ".join(on_one_line(it.name) for it in self.lost())}. Codes for texts: docs/tables.md.')
         if any(it.missing for it in self.columns) or self.short:
-            ends.append("0 is written where a value is missing; filter 'is_not_empty($NAME)' drops these rows.")
+            ends.append("0 stands where a value is missing; mlr filter 'is_not_empty($NAME)' drops these rows.")
         return '\n'.join([*self.lines(), '', *(f'  {column}' for column in self.columns), *ends])
 
     def as_object(self) -> Dict[str, Any]:
         """The view for programs."""
         return {'rows': self.rows, 'columns': {it.name: str(it).split(': ', 1)[1] for it in self.columns}, 'command': self.command()}
+
+
+def open_quote(text: str, separator: str = ',') -> Optional[int]:
+    """The row, the header being row 0, with a double quote that never closes: it is in the last cell then."""
+    records = list(records_of(text, separator)) if '"' in text else []
+    return len(records) - 1 if records and ends_open(text, records[-1][-1], separator) else None
+
+
+def ends_open(text: str, last: str, separator: str) -> bool:
+    """Whether a text ends within the quotes of its last cell."""
+    end = '"' + last.replace('"', '""')
+    before = text[:len(text) - len(end)][-1:]
+    return text.endswith(end) and (not before or before in f'{separator}\r\n')
 
 
 def separator_of(lines: List[str]) -> str:
@@ -230,26 +270,30 @@ def is_total(record: List[str], above: List[List[str]]) -> bool:
                                  and sum(int(row[at]) for row in above) == int(cells[at]) for at in numeric)
 
 
-def look_at(data: bytes, file: str = 'FILE') -> View:
-    """What a table holds. It has a header and a row, or no columns are shown."""
+def is_comment(record: List[str]) -> bool:
+    """Whether a record begins as a comment does."""
+    return record[0].startswith('#')
+
+
+def look_at(data: bytes, file: str = 'FILE', separator: Optional[str] = None) -> View:
+    """What a table holds; separator: the sign between its cells, if it is known. Without a header no columns are shown."""
     text = text_of(data)
     view = View(file=file)
     lines = [line for line in re.split(r'\r\n|\r|\n', text[:MOST_LOOKED_AT]) if line and not line.startswith('#')]
-    view.separator = separator_of(lines[:MOST_HEAD])
-    if view.separator != ',':
-        text = swapped(text, view.separator)
-    found = list(records_of(text))
-    if view.separator != ',':
-        found = [[swapped(cell, view.separator) for cell in record] for record in found]
-    records = [record for record in found if not record[0].startswith('#')]
+    view.separator = separator or separator_of(lines[:MOST_HEAD])
+    found = list(records_of(text, view.separator))
+    comments = [record for record in found if is_comment(record)]
+    # Where most rows begin with the sign it is a part of a cell.
+    has_comments = len(comments) * 2 < len(found)
+    records = [record for record in found if not is_comment(record)] if has_comments else found
     if not records:
         return view
     above = lines_above(records)
     first = next((at for at, record in enumerate(found) if record is records[above]), 0)
-    view.above = line_of(text, first) if first else 0
-    view.has_comments = any(record[0].startswith('#') for record in found[first:])
-    header, rows = records[above], records[above + 1:]
-    return filled(view, header, rows, text.isascii())
+    view.above = line_of(text, first, view.separator) if first else 0
+    view.has_comments = has_comments and any(map(is_comment, found[first:]))
+    view.open = len(records) - 1 - above if '"' in text and ends_open(text, records[-1][-1], view.separator) else None
+    return filled(view, records[above], records[above + 1:], text.isascii())
 
 
 def filled(view: View, header: List[str], rows: List[List[str]], is_plain: bool) -> View:
@@ -272,12 +316,7 @@ def filled(view: View, header: List[str], rows: List[List[str]], is_plain: bool)
     return view
 
 
-def line_of(text: str, record: int) -> int:
+def line_of(text: str, record: int, separator: str) -> int:
     """How many lines stand above a record."""
-    start = next((it[0].start for at, it in enumerate(fields_of(text)) if at == record), 0)
+    start = next((it[0].start for at, it in enumerate(fields_of(text, 0, separator)) if at == record), 0)
     return len(re.findall(r'\r\n|\r|\n', text[:start]))
-
-
-def swapped(text: str, sign: str) -> str:
-    """A text whose cells are parted by commas, if they were by another sign: a comma in a cell and the sign change places."""
-    return text.translate({ord(','): sign, ord(sign): ','})

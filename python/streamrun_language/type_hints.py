@@ -6,7 +6,7 @@ from typing import List, Optional
 
 from . import expressions as e
 from .lambdas import Want
-from .operands import RELATIONS, closing, end_of, instead, opening, operand_end, start_of, text, without
+from .operands import RELATIONS, TERMS, closing, end_of, instead, opening, operand_end, start_of, text, without
 from .site import Rule, Site
 from .values import CALLS
 
@@ -40,6 +40,13 @@ def equality_hint(site: Site) -> str:
     left = text(site, start, site.index - 1)
     cure = f'!{left}' if left.startswith('(') else f'!({left})'
     return f'A condition is not compared with {truth.text}: {instead(cure, text(site, start, site.index + 1))}.'
+
+
+def power_hint(site: Site) -> str:
+    """What to write for a power by the sign of other languages."""
+    start = start_of(site, site.index, (*TERMS, '*', '/', '%'))
+    product = ' * '.join([text(site, start, site.index - 1)] * int(site.tokens[site.index + 1].text))
+    return f'The sign ^ changes bits, and there is no power: {instead(product, text(site, start, site.index + 1))}.'
 
 
 def chain_hint(site: Site) -> str:
@@ -113,6 +120,8 @@ def choice_condition(site: Site) -> str:
 TYPES = [
     Rule('bits of conditions', lambda s: is_binary(s, '&', '|') and 'boolean' in types(s),
          lambda s: f'Between conditions stand two signs: {instead(OF_CONDITIONS[s.about.name], s.about.name)}.'),
+    Rule('power before a comparison', lambda s: is_binary(s, '^') and types(s) == ['long', 'boolean'] and
+         s.tokens[s.index + 1].text in ('2', '3', '4', '5') and s.tokens[s.index + 2].text in RELATIONS, power_hint),
     Rule('either of conditions', lambda s: is_binary(s, '^') and 'boolean' in types(s),
          'Between conditions stands c ? !d : d, which is true if just one of them is.'),
     Rule('compared conditions', lambda s: is_binary(s, '==', '!=') and 'boolean' in types(s), equality_hint),

@@ -152,6 +152,29 @@ class Tables(unittest.TestCase):
                 run(self.BOTH, {'good': [1, 2, 3][:len(column)], 'bad one': column})
             self.assertIn(f"column 'bad one' {words}", str(refused.exception))
 
+    def made_by_the_cure(self, column, given):
+        with self.assertRaises(streamrun.TableError) as refused:
+            run(self.SUM, given)
+        made = eval(str(refused.exception).rpartition(' by ')[2], {'numpy': numpy, 'pandas': pandas, 'x': column})
+        return [int(value) for value in made]
+
+    def test_what_a_refusal_of_a_list_says_is_right(self):
+        for column, wanted in (([4, 1.5], [400, 150]), ([4.0, None, 2.5], [400, 0, 250]), ([4.0, 2], [4, 2]), ([4, float('nan')], [4, 0]),
+                               ([None, 7], [0, 7]), ([True, 2], [1, 2]), ([decimal.Decimal(3)], [3]), (['1', ' -2'], [1, -2]),
+                               ([None, '5'], [0, 5]), (['1.25', '-3'], [125, -300]), (('7', 1), [7, 1])):
+            self.assertEqual(self.made_by_the_cure(column, {'a': column}), wanted, column)
+
+    @unittest.skipIf(pandas is None, 'pandas is not installed')
+    def test_what_a_refusal_of_an_array_says_is_right(self):
+        days = [datetime.date(2024, 1, 30), None]
+        for column, wanted in ((numpy.array([1.0, 2.0]), [1, 2]), (numpy.array([1.5, numpy.nan]), [150, 0]), (numpy.array([1.0, numpy.nan]), [1, 0]),
+                               (numpy.array(['1', '-2']), [1, -2]), (numpy.array(['b', 'a', 'b']), [0, 1, 0]), (['b', 'a', 'b'], [0, 1, 0]),
+                               (numpy.array(days, 'datetime64[D]'), [19752, 0]), (days, [19752, 0]), (numpy.array([True]), [1])):
+            self.assertEqual(self.made_by_the_cure(column, {'a': column}), wanted, column)
+        for column, wanted in ((pandas.to_datetime(['2024-01-30', None]), [19752, 0]), (['1', None, '3'], [1, 0, 3]), ([None, '2.5'], [0, 250])):
+            frame = pandas.DataFrame({'a': column})
+            self.assertEqual(self.made_by_the_cure(frame['a'], frame), wanted, column)
+
     @unittest.skipIf(pandas is None, 'pandas is not installed')
     def test_what_a_refusal_says_is_right(self):
         # 2024-01-30 is day 19752 since 1970.
@@ -175,6 +198,44 @@ class Tables(unittest.TestCase):
             self.assertEqual(run(pathlib.Path(file.name), table)['s'], 7)
         refused = Failures.failure(self, streamrun.JobsRefused, 's = column("b").sum()', table)
         self.assertIn('"a", "text", "price", "short"', str(refused))
+
+    def test_a_file_is_read_by_options(self):
+        with tempfile.TemporaryDirectory() as folder:
+            notes = pathlib.Path(folder, 'notes.csv')
+            notes.write_bytes(b'id;note;qty\n1;"pay; later";4\n2;"said ""no""\ntwice";-1\n3;;+10\n')
+            self.assertEqual(plain(run('q = column("qty").toArray()', notes, only_named=True, separator=';')['q']), [4, -1, 10])
+            tabs = pathlib.Path(folder, 'tabs.csv')
+            tabs.write_bytes(b'a\tb\n1\t\n" "\t2\n')
+            report = run('a = column("a").toArray()\nb = column("b").toArray()', tabs, separator='\t', blank=-5)
+            self.assertEqual((plain(report['a']), plain(report['b'])), ([1, -5], [-5, 2]))
+            for jobs, given, line, words in (
+                    ('q = column("qty").sum()', {}, 'bad number in row 1 column 1', "run with `separator=';'`"),
+                    ('q = column("qty").sum()', {'separator': ';'}, 'bad number in row 1 column 2', 'run with `only_named=True`'),
+                    ('n = column("note").sum()', {'separator': ';', 'only_named': True}, 'bad number in row 1 column 2', 'leave the column out')):
+                refused = Failures.failure(self, streamrun.ColumnsRefused, jobs, notes, **given)
+                self.assertEqual(refused.line, f'streamrun: columns: {line}')
+                self.assertIn(words, str(refused))
+            refused = Failures.failure(self, streamrun.ColumnsRefused, 'b = column("b").sum()', tabs, separator='\t')
+            self.assertIn('run with `blank=0`', str(refused))
+            refused = Failures.failure(self, streamrun.JobsRefused, 'q = column("qty").sum()', notes, only_named=True)
+            self.assertEqual(refused.line, 'streamrun: jobs: line 1: unknown column')
+            self.assertIn("run with `separator=';'`", str(refused))
+            self.assertEqual(Failures.failure(self, streamrun.CommandLineRefused, 'a = of(1).sum()', notes, separator='x').status, 2)
+
+    def test_options_of_files_change_nothing_of_other_tables(self):
+        table = {'a': [3, 4], 'text': ['x', 'y;z']}
+        self.assertEqual(run(self.SUM, table, only_named=True, separator=';', blank=9)['s'], 7)
+        with self.assertRaises(streamrun.TableError):
+            run(self.SUM, {'a': [3, None]}, blank=9)
+        wide = {f'c{at}': [at] for at in range(300)}
+        self.assertEqual(run('s = column("c299").sum()', wide)['s'], 299)
+        refused = Failures.failure(self, streamrun.JobsRefused, 's = column("c2990").sum()', wide)
+        self.assertIn('did you mean "c299"?', str(refused))
+        refused = Failures.failure(self, streamrun.JobsRefused, 's = column("\u00e91").sum()', {'\u00e9': [3, 4]})
+        self.assertIn('write `"\u00e9"` for `"\u00e91"`', str(refused))
+        # How many cells there are isn't said: the table is no file.
+        refused = Failures.failure(self, streamrun.JobsRefused, 's = column("a").tail(1)', {'a': [3, 4]})
+        self.assertNotIn('items that there are now', str(refused))
 
     def test_cells_of_all_sizes_arrive(self):
         cells = [MIN, MIN + 1, -10 ** 16, -99999999, -1, 0, 7, 9999, 10000, 123456789, 10 ** 16 - 1, MAX]
@@ -256,8 +317,8 @@ class Failures(unittest.TestCase):
             def __str__(self):
                 return 'line 1, column 11\n  here'
 
-        def explain_jobs(text, columns, newest):
-            seen.append((text, columns, newest))
+        def explain_jobs(text, **given):
+            seen.append((text, given))
             return Explanation()
         explain.explain_jobs = explain_jobs
         kept = {name: sys.modules.get(name) for name in ('streamrun_language', 'streamrun_language.explain')}
@@ -270,7 +331,7 @@ class Failures(unittest.TestCase):
                     del sys.modules[name]
                 else:
                     sys.modules[name] = module
-        self.assertEqual(seen, [(b'b = of(1).average()', b'"a"\n', 2)])
+        self.assertEqual(seen, [(b'b = of(1).average()', {'names': ['a'], 'newest': 2})])
         self.assertEqual(str(refused), 'streamrun: jobs: line 1: syntax\nline 1, column 11\n  here')
 
     def test_a_refusal_goes_without_explain(self):

@@ -8,6 +8,7 @@ import tempfile
 
 from running import LANGUAGES, TOP, read, run as ran, write
 from streamrun_language import explain
+from streamrun_language.tables import records_of, text_of
 
 from . import mistakes, tables
 
@@ -64,11 +65,30 @@ def wrong_mistakes(rows=None):
             yield f'{text!r}: {found}'
 
 
+def naming(names):
+    """A job file that names these columns, as far as jobs can."""
+    names = [name for name in names if not set(name) & set('"\r\n')]
+    return ''.join(f'j{at} = column("{name}").sum()\n' for at, name in enumerate(names)).encode()
+
+
+def naming_all(data):
+    """A job file that names all columns of a table."""
+    header = next(records_of(text_of(data)), [])
+    return naming([name.encode('latin-1').decode(errors='replace') for name in header])
+
+
+def table_rows():
+    """Each table that is refused, without its mark: (data, line, column, cell, words, job file, options)."""
+    for text, cell, words, *more in tables.ROWS:
+        data, line, column = unmarked(text)
+        named = naming(more[0]) if more and more[0] is not None else naming_all(data)
+        yield data, line, column, cell, words, named, more[1] if len(more) > 1 else {}
+
+
 def wrong_tables():
     """What is wrong with the explanations of tables that are written by hand."""
-    for text, cell, words in tables.ROWS:
-        data, line, column = unmarked(text)
-        found = explain.explain_jobs(b'', data)
+    for text, line, column, cell, words, jobs, options in table_rows():
+        found = explain.explain_jobs(jobs, text, **options)
         if found is None:
             yield f'{text!r} is accepted'
         elif (found.line, found.column, found.cell and tuple(vars(found.cell).values())) != (line, column, cell):
@@ -86,16 +106,17 @@ def wrong_files():
 
 
 def wrong_refusals(cases):
-    """Refusals that differ from what was worked out by hand, the cases being (jobs, columns, form, language, (out, err, status))."""
-    for jobs, columns, _, newest, (_, err, status) in cases:
-        found = explain.explain_jobs(jobs.encode(), columns, newest=newest)
+    """Refusals that differ from what was worked out by hand, the cases being (jobs, columns, form, language, (out, err, status), options
+    of the table)."""
+    for jobs, columns, _, newest, (_, err, status), table in cases:
+        found = explain.explain_jobs(jobs.encode(), columns, newest=newest, **table)
         if (f'streamrun: {found.cause}\n' if found else '') != err or bool(found) != bool(status):
             yield f'{jobs[:100]!r}: {found and found.cause}, wanted {err}'
 
 
-def wrong_place(data, columns, newest):
+def wrong_place(data, columns, newest, table):
     """What is wrong with the place of a refusal, or nothing."""
-    found = explain.explain_jobs(data, columns, 'jobs', 'columns', newest)
+    found = explain.explain_jobs(data, columns, 'jobs', 'columns', newest, **table)
     if found is None:
         return ''
     is_whole = found.file == 'columns' or found.text == line_of(data, found.line)
@@ -123,7 +144,7 @@ def wrong_commands():
                 ([good, '--columns', folder], ('', 'streamrun: columns: read failed\n', 4))]:
             if run(*arguments) != wanted:
                 yield f'{arguments}: {run(*arguments)}'
-        view = (f"1 column, 1 row\n\n  a: text\n\nmlr --csv cut -x -f 'a' {table}\nLeft out: a. Codes for texts: docs/tables.md.\n", '', 1)
+        view = (f'1 column, 1 row\n\n  a: text\n\nstreamrun --only-named --columns {table} JOBS\nNot read: a. Codes for texts: docs/tables.md.\n', '', 1)
         if run('--columns', table) != view or json.loads(run('--columns', table, '--json')[0])['columns'] != {'a': 'text'}:
             yield f'{run("--columns", table)}'
         if not run(bad, '--columns', table)[0].startswith(cell) or run()[2] != 2 or run('--column', table)[2] != 2:

@@ -1,17 +1,19 @@
 """Follows hints to the letter: what they propose is put in, and has to be accepted and to give what is right."""
 import os
 import re
+import shlex
 import shutil
 import tempfile
 
-from running import LANGUAGES, TOP, run as ran
+from running import LANGUAGES, TOP, run as ran, table_of, write
 from streamrun_language import explain, model, table_view
-from streamrun_language.tables import read_columns
+from streamrun_language.tables import form_for, read_columns
 
 from . import cases, first_tries, tables, whole_tables
 
-# A command of a hint, and the program that it wants.
+# A command of a hint, and the program that it wants; an option of it.
 COMMAND = re.compile(r'`((mlr|iconv|sed|grep|tr|tail) [^`]*)`')
+OPTION = re.compile(r'`(--(?:only-named|separator|blank)[^`]*)`')
 MOST_ROUNDS = 9
 
 
@@ -24,54 +26,86 @@ def made_by(command, data):
     return done.out if done.status == 0 and not done.err else b'x\n' + done.err.replace(b'\n', b' ')
 
 
-def followed(data):
-    """A table after the commands of its hints, one after another, and the last hint that has none."""
+def followed(data, jobs, table=None):
+    """A table after the commands of its hints, one after another, the options that they name, and the last hint that has
+    neither."""
+    table = dict(table or {})
     for _ in range(MOST_ROUNDS):
-        found = explain.explain_jobs(b'', data)
-        command = found and COMMAND.search(found.hint)
-        if not command:
-            return data, found and found.hint
-        data = made_by(command[1], data)
-    return data, 'too many rounds'
+        found = explain.explain_jobs(jobs, data, **table)
+        if not found or found.file != 'FILE':
+            return data, table, None
+        command, option = COMMAND.search(found.hint), OPTION.search(found.hint)
+        if not command and not option:
+            return data, table, found.hint
+        if option:
+            table.update(table_of(shlex.split(option[1])))
+        else:
+            data = made_by(command[1], data)
+    return data, table, 'too many rounds'
 
 
 def wrong_cures():
     """Tables that are refused after the commands of their hints, too. Miller ends no lines by CR, and a command has no name of two
     lines."""
-    samples = [cases.unmarked(text)[0] for text, _, _ in tables.ROWS] + [data for data, _ in tables.FILES]
-    for data in samples if shutil.which('mlr') else []:
-        has_command = COMMAND.search(explain.explain_jobs(b'', data).hint)
-        made, hint = followed(data) if has_command and b'\r' not in data and not data.startswith(b'"') else (b'a\n', None)
-        if hint or explain.explain_jobs(b'', made):
+    samples = [(data, jobs, options) for data, _, _, _, _, jobs, options in cases.table_rows()]
+    samples += [(data, cases.naming_all(data), {}) for data, _ in tables.FILES]
+    for data, jobs, options in samples if shutil.which('mlr') else []:
+        hint = explain.explain_jobs(jobs, data, **options).hint
+        is_tried = (COMMAND.search(hint) or OPTION.search(hint)) and b'\r' not in data and not data.startswith(b'"')
+        made, _, hint = followed(data, jobs, options) if is_tried else (b'a\n', {}, None)
+        if hint:
             yield f'{data[-80:]!r}: {made[:80]!r} {hint}'
 
 
-def sums_of(data):
-    """The sum of each column."""
-    return {table_view.shown(name): sum(cells) for name, cells in read_columns(data).items()}
+def sums_of(data, jobs, table):
+    """The sum of each column that these jobs name, by the model."""
+    columns = read_columns(data, form_for(jobs, **{**table, 'only_named': True}))
+    return {table_view.shown(name): sum(cells) for name, cells in columns.items()}
 
 
-def wrong_whole_tables():
+def sums_at_once(command, data, jobs):
+    """These sums after the one command of a table."""
+    made, _, run = command.rpartition('streamrun ')
+    options = table_of(shlex.split(run.partition('--columns')[0]))
+    return sums_of(made_by(made.removesuffix(' | '), data) if made else data, jobs, options)
+
+
+def report_of(program, command, data, jobs):
+    """What this program prints by the one command of a table."""
+    with tempfile.TemporaryDirectory() as folder:
+        table, job_file = (write(os.path.join(folder, name), text) for name, text in (('table', data), ('jobs', jobs)))
+        command = command or 'streamrun --columns FILE JOBS'
+        return ran(['sh', '-c', f'streamrun() {{ {shlex.quote(program)} "$@"; }}; ' + command.replace('FILE', table).replace('JOBS', job_file)]).out.decode()
+
+
+def wrong_whole_tables(program=''):
     """What is wrong after following the hints of a table, and its one command. Without Miller no command is tried."""
     for text, sums in whole_tables.ROWS if shutil.which('mlr') else []:
-        data = text.encode()
-        made, hint = followed(data)
+        data, jobs = text.encode(), cases.naming(sums)
+        made, table, hint = followed(data, jobs)
         command = table_view.look_at(data).command()
-        at_once = made_by(command, data) if command else data
-        for what, table in (('hints', made), ('one command', at_once)):
-            if explain.explain_jobs(b'', table) or sums_of(table) != sums:
-                yield f'{text[:90]!r}, {what}: {table[:90]!r} {hint} {command}'
+        try:
+            got = [sums_of(made, jobs, table), sums_at_once(command, data, jobs)]
+        except explain.RefusedTable as refused:
+            got = refused
+        report = ''.join(f'j{at} = {total}\n' for at, total in enumerate(sums.values()))
+        if hint or got != [sums, sums] or program and report_of(program, command, data, jobs) != report:
+            yield f'{text[:90]!r}: {made[:90]!r} {table} {hint} {command} {got}'
     for text, words in whole_tables.BY_HAND:
-        found = explain.explain_jobs(b'', text.encode())
+        found = explain.explain_jobs(cases.naming_all(text.encode()), text.encode())
         if not found or not all(word in found.hint for word in words):
             yield f'{text!r}: {found}'
 
 
 def wrong_view():
-    """What is wrong with the lines of a view."""
+    """What is wrong with the lines of a view, or with what is said of open quotes."""
     table, wanted = whole_tables.VIEW
     if str(table_view.look_at(table.encode())) != wanted:
         yield str(table_view.look_at(table.encode()))
+    for text, separator, row in whole_tables.OPEN:
+        found = [table_view.look_at(text.encode(), separator=separator).open, table_view.open_quote(text, separator)]
+        if found != [row, row] or row is not None and 'Close the double quote' not in str(table_view.look_at(text.encode(), separator=separator)):
+            yield f'{text!r}: {found}'
 
 
 def explained(typed):

@@ -323,6 +323,8 @@ ROWS = [
     ('version 3\nx = column("qty").sorted(\u00a6(a, b) -> b - a).toArray()', ['write `.map(x -> ~x).sorted().map(x -> ~x)`'], 3),
     ('version 3\nx = column("qty").sorted(\u00a6x -> x % 2).toArray()', ['takes nothing', 'docs/tables.md'], 3),
     ('version 3\nx = column("qty").\u00a6sort().toArray()', ['write `.sorted()` for `.sort()`.'], 3),
+    ('version 3\nx = column("qty").sorted().\u00a6reversed().toArray()', ['write `.map(x -> ~x).sorted().map(x -> ~x)` for `.sorted().reversed()`'], 3),
+    ('x = column("qty").\u00a6boxed().toList()', ['leave `.boxed()` out']),
     ('version 3\nx = of(2, 1).toArray().\u00a6sorted().toArray()', ['`x = result(x_1).sorted().toArray()`'], 3),
     ('version 3\nx = of(2, 1).\u00a6zzz()', ['sorted, distinct'], 3),
     ('version 3\nversion \u00a63\nx = of(1).sum()', ['One line'], 3),

@@ -1,16 +1,17 @@
 """Tables that are refused. The sign MARK of mistakes.py stands before the place of the caret; beside it are the row, the name of the
-column and the cell, or None if the refusal is of no cell, and words that the hint has to have. All were worked out by
-hand."""
+column and the cell, or None if the refusal is of no cell, and words that the hint has to have; then the columns that jobs name,
+if they don't name all; then the options of the table. All were worked out by hand."""
 
 ROWS = [
     # The eight tables of a first day.
-    ('id,name,qty\n1,\u00a6Ann,5\n2,Bob,6\n', (1, 'name', 'Ann'), ["mlr --csv cut -x -f 'name'", 'codes']),
-    ('id,qty\n1,5\n2,\u00a6\n', (2, 'qty', ''), ['mlr --csv fill-empty -v 0']),
+    ('id,name,qty\n1,\u00a6Ann,5\n2,Bob,6\n', (1, 'name', 'Ann'), ['No job names', '`--only-named`'], ['id', 'qty']),
+    ('id,name,qty\n1,\u00a6Ann,5\n2,Bob,6\n', (1, 'name', 'Ann'), ['codes', 'out of the jobs'], ['name']),
+    ('id,qty\n1,5\n2,\u00a6\n', (2, 'qty', ''), ['1 empty cell', '`--blank 0`']),
     ('id,price\n1,\u00a612.50\n2,3.99\n', (1, 'price', '12.50'), ['hundredths', 'round(${price} * 100)']),
-    ('id;qty\n\u00a61;5\n2;6\n', (1, 'id;qty', '1;5'), ['semicolon', '--ifs semicolon']),
-    ('id\tqty\n\u00a61\t5\n', (1, 'id\tqty', '1\t5'), ['tab', '--ifs tab']),
-    ('id|qty\n\u00a61|5\n', (1, 'id|qty', '1|5'), ['pipe', '--ifs pipe']),
-    (','.join(f'c{at}' for at in range(256)) + ',\u00a6c256\n' + '1,' * 256 + '1\n', None, ['mlr --csv cut -f']),
+    ('id;qty\n\u00a61;5\n2;6\n', (1, 'id;qty', '1;5'), ['semicolon', "`--separator ';'`"]),
+    ('id\tqty\n\u00a61\t5\n', (1, 'id\tqty', '1\t5'), ['tab', '`--separator tab`']),
+    ('id|qty\n\u00a61|5\n', (1, 'id|qty', '1|5'), ['pipe', "`--separator '|'`"]),
+    (','.join(f'c{at}' for at in range(256)) + ',\u00a6c256\n' + '1,' * 256 + '1\n', None, ['`--only-named`', 'counted alone'], ['c0']),
     ('day,qty\n\u00a62026-01-31,5\n', (1, 'day', '2026-01-31'), ['days', 'strptime']),
     # Files that are no CSV.
     ('\u00a6', None, ['empty', 'names of the columns']),
@@ -19,7 +20,11 @@ ROWS = [
     ('# sums\n\u00a6x = of(1).sum()\ny = of(2).sum()\n', (1, '# sums', 'x = of(1).sum()'), ['looks like a job file', '--columns']),
     # Names.
     ('qty,price,\u00a6qty\n1,2,3\n', None, ['"qty"', 'rename']),
+    ('qty,price,\u00a6qty\n1,2,3\n', None, ['"qty"', '`--only-named`'], ['price']),
     ('5,7,\u00a65\n1,2,3\n', None, ['line of names']),
+    (','.join(f'c{at}' for at in range(300)) + ',\u00a6c1\n' + '1,' * 300 + '1\n', None, ['rename'], ['c1'], {'only_named': True}),
+    (','.join(f'c{at}' for at in range(256)) + ',\u00a6c256\n' + '1,' * 256 + '1\n', None, ['at most 256'],
+     [f'c{at}' for at in range(257)], {'only_named': True}),
     # Rows.
     ('id,qty\n\u00a6# a comment,5\n1,2\n', (1, 'id', '# a comment'), ['grep -v']),
     ('id,qty\n1,2\n\n3,4,\u00a65\n', None, ['2 names', '3 cells', 'double quotes']),
@@ -46,19 +51,30 @@ ROWS = [
     ('id,price\n1,\u00a6$12\n2,$7\n', (1, 'price', '$12'), ['no unit']),
     ('id,share\n1,\u00a65%\n', (1, 'share', '5%'), ['no unit']),
     ("id,qty\n1,\u00a6'5'\n", (1, 'qty', "'5'"), ['single']),
-    ('id,two words\n1,\u00a6abc\n', (1, 'two words', 'abc'), ["cut -x -f 'two words'"]),
-    ('\ufeffid,qty\n1,\u00a6abc\n', (1, 'qty', 'abc'), ["cut -x -f 'qty'"]),
-    ('id,qty\r1,2\r3,\u00a6x\r', (2, 'qty', 'x'), ["cut -x -f 'qty'"]),
-    ('id,qty\r\n\r\n1,2\r\n"3",\u00a6x\r\n', (2, 'qty', 'x'), ["cut -x -f 'qty'"]),
-    ('"i\nd",qty\n1,2\n3,\u00a6x\n', (2, 'qty', 'x'), ["cut -x -f 'qty'"]),
-    ('"i\nd",qty\n\u00a6x,2\n', (1, 'i\nd', 'x'), ["cut -x -f 'i d'"]),
+    ('id,two words\n1,\u00a6abc\n', (1, 'two words', 'abc'), ['codes']),
+    ('\ufeffid,qty\n1,\u00a6abc\n', (1, 'qty', 'abc'), ['codes']),
+    ('id,qty\r1,2\r3,\u00a6x\r', (2, 'qty', 'x'), ['codes']),
+    ('id,qty\r\n\r\n1,2\r\n"3",\u00a6x\r\n', (2, 'qty', 'x'), ['codes']),
+    ('"i\nd",qty\n1,2\n3,\u00a6x\n', (2, 'qty', 'x'), ['codes']),
+    ('"i\nd",qty\n\u00a6x,2\n', (1, 'i\nd', 'x'), ['`--only-named`']),
     # What the rest of the table says of a cell or a row.
     ('id,qty\n1,5\n2,6\n3,\u00a6x\n4,7\n', (3, 'qty', 'x'), ['Of 4 cells this one alone', "filter 'NR != 3'"]),
     ('id,qty\n1,5\n\u00a6Total,5\n', (2, 'id', 'Total'), ['Row 2 is the last one', 'head -n 1']),
     ('Sales 2024\nid,\u00a6qty\n1,5\n', None, ['header is line 2', 'tail -n +2 FILE']),
     ('# made by x\nid,\u00a6qty\n1,5\n', None, ['header is line 2', 'tail -n +2 FILE']),
-    ('id,qty,name\n# a comment,5\u00a6\n1,2,Ann\n', None, ['no comments', 'grep -v']),
+    ('id,qty,name\n# a comment,5\u00a6\n1,2,Ann\n', None, ['no comments', 'grep -v'], ['id', 'qty']),
     ('id,paid,day\n1,\u00a6yes,2024-01-30\n', (1, 'paid', 'yes'), ['1 and 0', 'tools/explain --columns FILE']),
+    # What jobs don't name, and rows that would count all the same.
+    ('id,note\n1,\u00a6"a\nb"\n', (1, 'note', 'a\nb'), ['`--only-named`'], ['id']),
+    ('id,note,n\n1,"a\nb",2\n3,"x\n\u00a6', None, ['double quote', 'close it'], ['id'], {'only_named': True}),
+    ('item,qty\n\u00a6nut,5\nbolt,6\nTotal,11\n', (1, 'item', 'nut'), ['Row 3 is the last one', 'head -n 2'], ['qty']),
+    ('item,qty\n\u00a6nut,5\n# checked,1\nbolt,6\n', (1, 'item', 'nut'), ['no comments', 'grep -v'], ['qty']),
+    ('order,qty\n\u00a6#1001,5\n#1002,6\n', (1, 'order', '#1001'), ['`--only-named`'], ['qty']),
+    ('id,n\n1,5\n2,\u00a6\n3,NA\n', (2, 'n', ''), ['1 empty cell', 'mlr --csv put']),
+    ('id,n\n1,\n2,\u00a6NA\n', (2, 'n', 'NA'), ['"NA"', 'leave the column out of the jobs'], ['n'], {'blank': 0}),
+    # Options that don't fit.
+    ('id,qty\n\u00a61,5\n', (1, 'id,qty', '1,5'), ['commas', 'leave --separator out'], ['qty'], {'separator': ';'}),
+    ('id;day\n1;\u00a62024-01-30\n', (1, 'day', '2024-01-30'), ['mlr --csv --fs semicolon put'], ['day'], {'separator': ';'}),
 ]
 # Files that are no text: the place is not looked at.
 FILES = [

@@ -1,10 +1,11 @@
 """Tables as people have them, with the sum of each column that has numbers, worked out by hand. The hints are followed, one after
-another, and so is the one command for the whole table. Days are those since 1970-01-01, by a calendar."""
+another, and so is the one command for the whole table, with jobs that name the columns of the sums. Days are those since
+1970-01-01, by a calendar."""
 
 DAY, TEN = 19752, 36000      # 2024-01-30, and ten o'clock in seconds
 SECONDS = DAY * 86400 + TEN
 
-# (the table, the sums); a column that isn't named has no numbers, and is left out.
+# (the table, the sums); no job names the other columns, which have no numbers.
 ROWS = [
     # Read as they are.
     ('id,qty\n1,5\n2,6\n', {'id': 3, 'qty': 11}),
@@ -35,6 +36,7 @@ ROWS = [
     ('id,x\n1,0.1\n2,-0.7\n3,12\n', {'id': 6, 'x': 114}),
     ('id,x\n1,0.30000000000000004\n2,1.5\n', {'id': 3, 'x': 1800000}),
     ('id,x\n1,1e3\n2,-1.5E+04\n', {'id': 3, 'x': -14000}),
+    ('id,x\n1,1e18\n2,9007199254740994.0\n', {'id': 3, 'x': 1009007199254740994}),
     ('id,x\n1,1.5e-3\n2,2\n', {'id': 3, 'x': 20015}),
     # Numbers as people write them.
     ('id,amount\n1,(123)\n2,45\n', {'id': 3, 'amount': -78}),
@@ -95,6 +97,8 @@ BY_HAND = [
     ('id,note,qty\n1,red, blue,5\n2,green,6\n', ['double quotes around the cell']),
     ('id,qty\n1,1,234\n2,6\n', ['inside a number']),
     ('id,n\n1,18446744073709551616\n2,5\n', ['64 bits', 'larger unit']),
+    ('id,n\n1,9007199254740993.5\n2,5\n', ['2^53', 'larger unit']),
+    ('id,n\n1,9007199254740993.0\n2,5\n', ['2^53', 'larger unit']),
     ('id,day\n1,01/02/2024\n', ['is the day first', '%d/%m/%Y']),
 ]
 # What the view of a table says: all of its lines.
@@ -110,7 +114,11 @@ the last row has totals
   qty: integers, 1 blank from row 1 on, in row 3 "x"
 
 tail -n +2 FILE | mlr --csv head -n 3 then filter 'NR != 3' then put '${day} = strptime(${day}, "%Y-%m-%d") // 86400; \
-${price} = is_empty(${price}) ? 0 : int(round(${price} * 100)); ${qty} = is_empty(${qty}) ? 0 : ${qty}' then cut -x -f 'name'
+${price} = is_empty(${price}) ? 0 : int(round(${price} * 100))' | streamrun --only-named --blank 0 --columns /dev/stdin JOBS
 Left out: row 3, which has a cell that is no number.
-Left out: name. Codes for texts: docs/tables.md.
-0 is written where a value is missing; filter 'is_not_empty($NAME)' drops these rows.""")
+Not read: name. Codes for texts: docs/tables.md.
+0 stands where a value is missing; mlr filter 'is_not_empty($NAME)' drops these rows.""")
+# Tables with their separators, and the row with a double quote that never closes, or None.
+OPEN = [('n,t\n1,x\n2,"y\n3,z\n', ',', 2), ('n,t\n1,x\n2,"y"\n3,"z""z"', ',', None), ('n,t\n1,""\n', ',', None), ('n,t\n1,"', ',', 1),
+        ('n,t\n1,"""', ',', 1), ('n,t\n1,""""', ',', None), ('n,t\n1,5"\n', ',', None), ('n,"t\n1,x\n', ',', 0), ('"', ',', 0), ('', ',', None),
+        ('n;t\n1;"a;b"\n\n2;"c,\n', ';', 2), ('n\tt\r1\t"a""', '\t', 1)]

@@ -4,10 +4,11 @@ import json
 import os
 
 import running
-from running import TOP, read
+from running import LANGUAGES, TOP, read
 from scatter_lib import command
 from scatter_lib.jobs import read_jobs
 from scatter_lib.plan import Plan
+from streamrun_language.tables import SIGNS
 
 from .random_files import PartsWriter
 
@@ -30,36 +31,38 @@ def one_run(program, *arguments, **more):
 
 
 class ByHand:
-    """The commands that a cluster without Dask goes through: cut, jobs, the program, and streamrun-merge."""
+    """The commands that a cluster without Dask goes through: cut, jobs, the program, and streamrun-merge. writer: of the files."""
 
-    def __init__(self, test, folder):
+    def __init__(self, test, folder, writer):
         self.test, self.folder, self.seen = test, folder, test.seen
+        self.options, self.language = writer.options(), writer.language_words()
+        self.separator = ['--separator', SIGNS[writer.texts.sign]]
 
     def outcome(self, columns, jobs, count, form):
-        out, lines, status = run('cut', '--parts', count, columns, self.folder)
+        out, lines, status = run('cut', '--parts', count, *self.separator, columns, self.folder)
         if status:
             return out, lines, status
         parts = sorted(os.path.join(self.folder, name) for name in os.listdir(self.folder) if name.startswith('part-'))
-        if run('rows', *parts)[0] != out:
+        if run('rows', *self.separator, *parts)[0] != out:
             return b'', b'cut and rows count differently\n', 1
         rows = out.decode().strip()
         self.seen['an empty part'] += '0' in rows.split(',')
-        data, lines, status = run('jobs', jobs)
+        data, lines, status = run('jobs', *self.language, jobs)
         if status:
             return data, lines, status
         part_jobs = write(self.folder, 'part.jobs', data)
         reports = []
         for at, part in enumerate(parts):
-            out, err, status = one_run(self.test.program, '--json', '--columns', part, part_jobs)
+            out, err, status = one_run(self.test.program, '--json', *self.options, '--columns', part, part_jobs)
             if status:
                 return out, err, status
             reports.append(write(self.folder, f'report-{at}.json', out))
         self.look_at(data, [json.loads(read(report)) for report in reports])
-        return one_run(self.test.merger, '--rows', rows, *form, jobs, *reports)
+        return one_run(self.test.merger, '--rows', rows, *self.language, *form, jobs, *reports)
 
     def look_at(self, jobs, reports):
         """Counts what the parts' answers are, so that a test without wraps or faults is noticed."""
-        for at, job in enumerate(read_jobs(jobs)):
+        for at, job in enumerate(read_jobs(jobs, LANGUAGES[-1])):
             given = [report[at] for report in reports]
             values = [it.get('number', it.get('optional')) for it in given]
             if 'sum' in (job.terminal.name, job.operator) and None not in values:
@@ -71,11 +74,19 @@ class ByHand:
 def is_done_by_hand(jobs, seen):
     """Whether a job file has one round, and no source without values, which is a column to streamrun-merge. It counts what is
     in it."""
-    plan = Plan(read_jobs(read(jobs)))
+    plan = Plan(read_jobs(read(jobs), LANGUAGES[-1]))
     seen['a later round'] += plan.rounds > 1
     seen['an array in a round'] += any(it.array for it in plan.jobs.values())
     seen['onFault'] += any(it.is_cut and it.job.fallback for it in plan.jobs.values())
     return plan.rounds == 1 and not any(source.is_empty for it in plan.jobs.values() for source in it.job.sources)
+
+
+def count_options(seen, writer):
+    """Counts how the tables are read."""
+    seen['texts'] += writer.only_named
+    seen['another separator'] += writer.texts.sign != ','
+    seen['blanks'] += writer.blank is not None
+    seen['version 3'] += writer.version == LANGUAGES[-1]
 
 
 def random_outcomes(test, index, folder):
@@ -83,14 +94,15 @@ def random_outcomes(test, index, folder):
     writer = PartsWriter(test.seed, index)
     jobs = write(folder, 'jobs', writer.job_file())
     columns = write(folder, 'columns.csv', writer.table(0, writer.rows))
-    form, count = writer.pick([], ['--json']), writer.random.randint(1, 9)
-    wanted = one_run(test.program, *form, '--columns', columns, jobs)
+    form, count, options = writer.pick([], ['--json']), writer.random.randint(1, 9), writer.options()
+    wanted = one_run(test.program, *form, *options, '--columns', columns, jobs)
     # A command by hand knows nothing of a job file that is refused: each part says so.
     way = WAYS[index % len(WAYS)] if wanted[2] == 0 and is_done_by_hand(jobs, test.seen) else WAYS[index % 2]
+    count_options(test.seen, writer)
     test.seen[way] += 1
-    programs = ['--program', test.program, '--merger', test.merger]
+    programs = ['--program', test.program, '--merger', test.merger, *options]
     if way == 'merge':
-        return wanted, ByHand(test, os.path.join(folder, 'parts')).outcome(columns, jobs, count, form)
+        return wanted, ByHand(test, os.path.join(folder, 'parts'), writer).outcome(columns, jobs, count, form)
     if way == 'files':
         files = [write(folder, f'file-{at}.csv', data) for at, data in enumerate(writer.tables())]
         return wanted, run('run', '--parts', count, *programs, *form, '--columns', *files, jobs)
@@ -103,7 +115,8 @@ def refused_outcomes(test, index, folder):
     data = writer.damaged_table()
     jobs = writer.job_file() + (b'last = of(1).average()' if index % 3 == 0 else b'')
     jobs, columns = write(folder, 'jobs', jobs), write(folder, 'columns.csv', data)
-    wanted = one_run(test.program, '--columns', columns, jobs)
+    wanted = one_run(test.program, *writer.options(), '--columns', columns, jobs)
     for words in (b'bad number', b'wrong length', b'jobs: line'):
         test.seen[words.decode()] += words in wanted[1]
-    return wanted, run('run', '--parts', writer.random.randint(1, 9), '--program', test.program, '--merger', test.merger, '--columns', columns, jobs)
+    programs = ['--program', test.program, '--merger', test.merger, *writer.options()]
+    return wanted, run('run', '--parts', writer.random.randint(1, 9), *programs, '--columns', columns, jobs)

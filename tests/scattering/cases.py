@@ -29,6 +29,24 @@ UNMERGEABLE = [
      'scatter: jobs: line 3: u isn\'t mergeable: skip(1) beside column("a")'),
 ]
 
+# Those cases for job files that are read with --language 3.
+UNMERGEABLE_ROWS = [
+    ('version 3\ns = column("a").map(x -> x * cell( "b" )).sum()', '2: s isn\'t mergeable: cell( "b" ) beside column("a")'),
+    ('version 3\nt = column("a").filter(row2 -> row2 > 1).sum()\ns = column("a").anyMatch(x -> x > row())',
+     '3: s isn\'t mergeable: row() beside column("a")'),
+    ('version 3\ns = column("a").map(x -> x).sumExact()', '2: s isn\'t mergeable: sumExact() beside column("a")'),
+    ('version 3\ns = column("a").sorted().toArray()', '2: s isn\'t mergeable: sorted() beside column("a")'),
+    ('version 3\ns = column("a").distinct().count()', '2: s isn\'t mergeable: distinct() beside column("a")'),
+]
+
+# Table, job file, other words, report: tables that are read by options, and job files of version 3.
+RUN = [
+    (b'id;note;qty\n1;"a\n;b";4\n2;x;\n3;;-1\n', 's = column("qty").sum()\nt = column("id").map(x -> x * $s).toArray()',
+     ['--only-named', '--separator', ';', '--blank', '10'], 's = 13\nt = [13, 26, 39]\n'),
+    (b'a\tb\n1\t2\n3\t4\n', 'version 3\ns = column("a").sum()\nr = range(0, 3).map(x -> row() + $s).sumExact()',
+     ['--separator', 'tab', '--language', '3'], 's = 4\nr = 15\n'),
+]
+
 # Table, job file, number of parts, status, line: what one run says by docs/job-language.md.
 REFUSED = [
     (b'', b'a = of(1).sum()', 3, 1, 'streamrun: columns: no header'),
@@ -180,6 +198,23 @@ def refusals(test, folder):
         for got in (run('run', '--parts', 2, '--program', '/none', '--columns', columns, jobs), run('jobs', jobs)):
             test.expect(text, got == (b'', f'scatter: jobs: line {line}\n'.encode(), 1), got)
         test.expect(text, real('plan', jobs)[1:] == (f'scatter: jobs: line {line}\n'.encode(), 1), real('plan', jobs))
+    for text, line in UNMERGEABLE_ROWS:
+        jobs = write(folder, 'jobs', text.encode())
+        for got in (run('run', '--language', 3, '--program', '/none', '--columns', columns, jobs), run('jobs', '--language', 3, jobs)):
+            test.expect(text, got == (b'', f'scatter: jobs: line {line}\n'.encode(), 1), got)
+    for table, text, words, report in RUN:
+        columns, jobs = write(folder, 'table.csv', table), write(folder, 'jobs', text.encode())
+        for count in (1, 2, 3):
+            got = run('run', '--parts', count, '--program', test.program, '--merger', test.merger, *words, '--columns', columns, jobs)
+            test.expect(text, got == (report.encode(), b'', 0), got)
+    columns, empty = write(folder, 'table.csv', TABLE), write(folder, 'jobs', b'# none\n')
+    for form, report in ([], b''), (['--json'], b'[]\n'):
+        got = run('run', *form, '--program', test.program, '--merger', test.merger, '--columns', columns, empty)
+        test.expect('no jobs', got == (report, b'streamrun: the job file has no job\n', 0), got)
+    later = write(folder, 'jobs', b's = column("a").sum()\nt = column("b").map(x -> x + $s).sum()\n')
+    columns = write(folder, 'table.csv', b'a,b\n1,1\n2,y\nx,3\n')
+    got = run('run', '--parts', 3, '--only-named', '--program', test.program, '--merger', test.merger, '--columns', columns, later)
+    test.expect('a bad cell of a later round', got == (b'', b'streamrun: columns: bad number in row 2 column 2\n', 1), got)
     for table, text, count, status, line in REFUSED:
         columns, jobs = write(folder, 'table.csv', table), write(folder, 'jobs', text)
         got = run('run', '--parts', count, '--program', test.program, '--columns', columns, jobs)

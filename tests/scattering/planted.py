@@ -11,18 +11,18 @@ MOST_FILES = 1000
 
 def in_another_order(merged):
     """Merges the parts in the order in which they happen to be ready: the last one first."""
-    return lambda program, form, text, rows, reports: merged(program, form, text, rows[::-1], reports[::-1])
+    return lambda merger, form, text, rows, reports: merged(merger, form, text, rows[::-1], reports[::-1])
 
 
 def with_equal_rows(merged):
     """Takes all parts for equally long."""
-    return lambda program, form, text, rows, reports: merged(program, form, text, [sum(rows) // len(rows)] * len(rows), reports)
+    return lambda merger, form, text, rows, reports: merged(merger, form, text, [sum(rows) // len(rows)] * len(rows), reports)
 
 
 def at_bytes(cuts):
     """Cuts a table anywhere."""
-    def anywhere(data, start, count):
-        found = cuts(data, start, count)
+    def anywhere(data, start, count, sign):
+        found = cuts(data, start, count, sign)
         size = len(data) - start
         return [(start + size * number // count, rows) for number, (_, rows) in enumerate(found, 1)]
     return anywhere
@@ -39,7 +39,7 @@ MISTAKES = [
 # This mistake shows over tables that are refused.
 MISTAKES_OF_REFUSALS = [
     ('a row that isn\'t moved', running, 'ended_by', lambda outcome, part, before, true=running.ended_by: true(outcome, part, 0)),
-    ('a quote that isn\'t heeded', tables, 'spans', lambda data, start: iter([(False, start, len(data))] * (start < len(data)))),
+    ('a quote that isn\'t heeded', tables, 'spans', lambda data, start, sign: iter([(False, start, len(data))] * (start < len(data)))),
 ]
 
 

@@ -1,13 +1,18 @@
 """Random tables and job files whose jobs can be made of parts: faults, wraps, empty tables, arrays and numbers of jobs
-above. What stands in lambdas comes from the generator of tests/soak.
+above; of some tables only columns that jobs name are looked at, or they have another separator, or blanks for a number. What stands
+in lambdas and in cells of text comes from the generators of tests/soak.
 """
 from generate import Source, Writer
+from random_tables import TableWriter
+from running import LANGUAGES, language, table_words
+from streamrun_language.tables import SIGNS
 
 STAGES = ['map', 'filter', 'flatMap', 'fault', 'filter']
 TERMINALS = ['sum', 'sum', 'sum', 'count', 'min', 'max', 'toArray', 'toArray', 'findFirst', 'reduce', 'reduce', 'reduce0',
              'reduce0', 'anyMatch', 'allMatch', 'noneMatch']
 LARGE = [2 ** 62, 2 ** 63 - 1, 2 ** 63 - 2, 2 ** 62 + 1, 5, -2 ** 63]
 ROWS = [0, 1, 2, 3, 5, 8, 9, 10, 17, 30, 64, 100, 257]
+TEXT_NAMES = ['note', 'city', 'x;y', 'say "no"', '\r\n']
 MORE_NAMES = ['two\nlines', 'a "quote"', 'tab\t', 'x,y', '\u00e9']
 
 
@@ -18,12 +23,29 @@ class PartsWriter(Writer):
         super().__init__(seed, index, [], 40)
         self.rows = self.random.choice(ROWS)
         self.make_columns(self.rows)
+        self.version = LANGUAGES[-1] if self.often(0.25) else self.version
+        self.uses_rows = False
+        self.texts, self.text_names = TableWriter(self.random), []
+        self.texts.sign = self.pick(',', ',', ';', '|', '\t')
+        self.only_named, self.blank = self.often(0.4), self.pick(None, None, 0, -7)
         if self.often(0.6):
             self.columns[self.random.choice(list(self.columns))] = [self.random.choice(LARGE) for _ in range(self.rows)]
         self.header = list(self.columns)
         if self.often(0.3):
             self.header.insert(self.random.randint(0, 1), self.random.choice(MORE_NAMES))
+        if self.only_named:
+            self.text_names = self.random.sample(TEXT_NAMES, self.random.randint(1, 3))
+            self.header += self.text_names
+            self.random.shuffle(self.header)
         self.cut_arrays, self.other_arrays = {}, []
+
+    def options(self):
+        """The words of a command line by which the table is read, and the job file."""
+        table = {'only_named': self.only_named, 'separator': SIGNS[self.texts.sign], 'blank': self.blank}
+        return [*table_words(table), *self.language_words()]
+
+    def language_words(self):
+        return language(max(self.version, LANGUAGES[0]))
 
     def cut_job(self):
         """A job over a column, or over an array of one of these jobs."""
@@ -52,8 +74,12 @@ class PartsWriter(Writer):
 
     def other_job(self):
         """A job that reads no part, with what parts can't do."""
-        self.arrays = self.other_arrays
-        return self.pick(self.values, self.slices, self.prefixes, self.folds)()
+        self.arrays, self.cells = self.other_arrays, []
+        self.uses_rows = self.version == LANGUAGES[-1]
+        try:
+            return self.pick(self.values, self.slices, self.prefixes, self.folds)()
+        finally:
+            self.uses_rows = False
 
     def job(self, name, kind):
         self.uses_names = self.often(0.5)
@@ -67,24 +93,33 @@ class PartsWriter(Writer):
                 self.cut_arrays[name] = self.cells_of(parts)
         elif 'Match' not in parts[-1]:
             self.numbers.append(name)
-            if self.version == 2 and (kind == 'other' or self.often(0.3)):
+            if self.version > 1 and (kind == 'other' or self.often(0.3)):
                 parts.append(f'onFault({self.number()})')
         return f'{name} = {self.spell(parts)}'
 
     def job_file(self):
         names = [self.pick(f'j{at}', f'_{at}', f'range{at}', f'concat{at}') for at in range(self.random.randint(1, 9))]
-        lines = ['version 2'] if self.version == 2 else []
+        lines = [f'version {self.version}'] if self.version > 1 else []
         lines += [self.job(name, self.pick('cut', 'cut', 'cut', 'total', 'array', 'other')) for name in names]
         text = self.pick('\n', '\r\n', '\n\n', '\n# a comment\n').join(lines) + self.pick('\n', '', '\r\n')
         return (self.pick('', '', '\ufeff') + text).encode()
 
     def table(self, first, last, end=None):
         """The bytes of a table with these rows."""
-        rows = [','.join(quoted(name) for name in self.header)]
+        sign = self.texts.sign.encode()
+        rows = [sign.join(quoted(name).encode() for name in self.header)]
         for at in range(first, last):
-            rows.append(','.join(self.cell(self.columns[name][at] if name in self.columns else at) for name in self.header))
-        between = end or self.pick('\n', '\n', '\r\n', '\n\n', '\r', '\r\n\r\n')
-        return (self.pick('', '', '\ufeff', '\n') + between.join(rows) + self.pick(between, between, '')).encode()
+            rows.append(sign.join(self.texts.text() if name in self.text_names else self.number_cell(self.columns.get(name, range(last))[at])
+                                  for name in self.header))
+        between = end or self.pick(b'\n', b'\n', b'\r\n', b'\n\n', b'\r', b'\r\n\r\n')
+        return self.pick(b'', b'', b'\xef\xbb\xbf', b'\n') + between.join(rows) + self.pick(between, between, b'')
+
+    def number_cell(self, value):
+        """A cell with a number; a blank one may be written for the number of blanks, but no empty line."""
+        if value == self.blank and self.often(0.5):
+            return self.pick(b'', b' ', b'"\t"') if len(self.header) > 1 else b'""'
+        text = self.cell(value)
+        return (f'"{text}"' if self.texts.sign in text else text).encode()
 
     def tables(self):
         """Its rows in several files."""

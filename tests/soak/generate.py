@@ -42,8 +42,11 @@ class Writer(LambdaWriter):
         super().__init__(random.Random(f'{seed}/{index}/{",".join(kinds)}/{most}'))
         self.kinds, self.most = kinds, most
         self.arrays, self.columns = [], {}
-        self.version = LANGUAGES[-1] if 'cells' in kinds and self.often(0.4) else 2 if self.often(0.3) else 1
-        self.uses_rows = self.version == LANGUAGES[-1]
+        later = {'cells', 'orders'} & set(kinds)
+        is_later = later and self.often(0.4 if set(kinds) - later - {'columns'} else 1)
+        self.version = LANGUAGES[-1] if is_later else 2 if self.often(0.3) else 1
+        self.uses_rows = is_later and 'cells' in kinds
+        self.uses_orders = is_later and 'orders' in kinds
 
     def length(self, most=None):
         most = self.most if most is None else most
@@ -195,15 +198,19 @@ class Writer(LambdaWriter):
         """Random stages, each made by one of these functions."""
         makers = {'map': self.map, 'filter': lambda: f'filter(x -> {self.condition(source)})', 'flatMap': self.flat_map,
                   'fault': lambda: self.fault(source), 'slice': lambda: self.slice(source.length),
-                  'while': lambda: self.while_(source), 'prefix': lambda: self.prefix(source.length), 'order': self.order}
-        found = [makers[self.random.choice(of)]() for _ in range(self.random.randint(0, most))]
+                  'while': lambda: self.while_(source), 'prefix': lambda: self.prefix(source.length)}
+        of, found = [*of, 'order'] if self.uses_orders else of, []
+        for _ in range(self.random.randint(0, most)):
+            name = self.random.choice(of)
+            found += self.order() if name == 'order' else [makers[name]()]
         return found if sum('flatMap' in it for it in found) < 3 else found[:2]
 
     def order(self):
         """A sort, or the first of equal items, also of few values; in files of earlier versions a map."""
-        if not self.uses_rows:
-            return 'map(x -> x & 3)'
-        return self.pick('', f'map(x -> {self.pick("x & 3", "x % 3", "x & 255", "-x")}).') + self.pick('sorted()', 'distinct()')
+        if not self.uses_orders:
+            return ['map(x -> x & 3)']
+        few = f'map(x -> {self.pick("x & 3", "x % 3", "x & 255", "-x")})'
+        return [*self.pick([], [few]), self.pick('sorted()', 'distinct()')]
 
     # Kinds of jobs: the source, the stages and the terminal of one job.
 
@@ -245,7 +252,7 @@ class Writer(LambdaWriter):
 
     def orders(self):
         source = self.source()
-        return [source.text, *self.stages(source, ['map', 'filter', 'flatMap', 'fault', 'slice', 'while'], 2), self.order(),
+        return [source.text, *self.stages(source, ['map', 'filter', 'flatMap', 'fault', 'slice', 'while'], 2), *self.order(),
                 *self.stages(source, ['map', 'order', 'prefix', 'slice', 'slice', 'while', 'fault'], 3), self.terminal(source)]
 
     def named(self):
@@ -271,7 +278,7 @@ class Writer(LambdaWriter):
         last = source.value(near)
         ends = [[f'limit({near})', self.terminal(source)], [f'limit({near + 1})', 'toArray()'], ['findFirst()'],
                 [f'limit({near + 1})', self.prefix(near + 1), self.terminal(source)]]
-        stages = [it for it in self.stages(source, ['map', 'fault'], 1) if 'filter' not in it]
+        stages = [it for it in self.stages(source, ['map', 'fault'], 1) if 'filter' not in it and it not in ('sorted()', 'distinct()')]
         if not stages and 'concat' not in parts[0]:
             ends += [[f'takeWhile(x -> x < {last})', self.terminal(source)], [f'anyMatch(x -> x >= {last})'],
                      [f'allMatch(x -> x < {last})'], [f'noneMatch(x -> x == {last})'],
@@ -415,8 +422,8 @@ def quoted(field):
     return f'"{field}"' if field == '' or ',' in str(field) else str(field)
 
 
-# What stands in a file: jobs of these kinds; 'columns' gives a column file too, 'cells' makes some files ones of the last version, with
-# cells, places and its terminals, 'refused' damages some of the bytes.
+# What stands in a file: jobs of these kinds; 'columns' gives a column file too, 'cells' and 'orders' make some files ones of the last
+# version, with cells, places and its terminals, with sorts and firsts in all places, 'refused' damages some of the bytes.
 KINDS = {'values': Writer.values, 'folds': Writer.folds, 'flatmaps': Writer.flat_maps, 'slices': Writer.slices,
          'finds': Writer.finds, 'faults': Writer.faults, 'prefix': Writer.prefixes, 'orders': Writer.orders, 'names': Writer.named,
          'sums': Writer.sums, 'long': Writer.long_sources, 'endless': Writer.endless, 'many': Writer.values, 'tables': Writer.tables,

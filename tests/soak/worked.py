@@ -3,7 +3,8 @@ give them, and the answers of examples/."""
 import os
 import re
 
-from running import LANGUAGES, TESTS, Tally, job_files, newest_of, read
+from running import LANGUAGES, TESTS, Tally, job_files, newest_of, options_beside, read, table_of
+from streamrun_language.model import NO_JOBS
 
 REFUSED_TEXTS = os.path.join(TESTS, 'soak', 'refused.txt')
 COLUMNS = b'a,b\n3,10\n0,20\n-5,30\n'
@@ -307,6 +308,39 @@ CELLS = [
 ]
 
 
+NOTES = b'id;note;qty\n1;"pay; later";4\n2;"said ""no""\ntwice";-1\n3;;+10\n'
+MIXED = b'a,t,b\n1,"x,2\ry"z,3\n\n4,u"v,5\n'
+ORDERS = b'id,day,city,price,qty\n1,2024-01-30,Oslo,12.50,4\n2,2024-01-31,Bergen,9.90,\n4,2024-02-01,Oslo,15.00,-1\n5,2024-02-02,Turku,12.50,10\n'
+# (a column file, words of the command line by which it is read, a job file, its report or the line that refuses it)
+TABLES = [
+    (NOTES, "--only-named --separator ;", 'q = column("qty").toArray()', 'q = [4, -1, 10]'),
+    (NOTES, "--only-named --separator ;", 'q = column("qty").toArray()\nn = column("note").count()', 'columns: bad number in row 1 column 2'),
+    (NOTES, "--only-named --separator ;", '# column("note")\nq = column("qty").sum()', 'q = 13'),
+    (NOTES, "--only-named --separator ;", 'q = column("note").sum(', 'columns: bad number in row 1 column 2'),
+    (NOTES, "--only-named --separator ;", 'r = range(0, 3).sum()', 'r = 3'),
+    (NOTES, "--only-named", 'q = column("qty").sum()', 'jobs: line 1: unknown column'),
+    (NOTES, "", 'q = column("qty").sum()', 'columns: bad number in row 1 column 1'),
+    (NOTES, "--separator ;", 'q = column("qty").sum()', 'columns: bad number in row 1 column 2'),
+    (NOTES, "--only-named --separator |", 'r = range(0, 3).sum()', 'r = 3'),
+    (ORDERS, "--only-named", 'n = column("qty").sum()', 'columns: bad number in row 2 column 5'),
+    (ORDERS, "--only-named --blank 0", 'n = column("qty").sum()', 'n = 13'),
+    (ORDERS, "--only-named --blank=-9223372036854775808", 'n = column("qty").filter(x -> x != Long.MIN_VALUE).count()', 'n = 3'),
+    (ORDERS, "--only-named", 'n = column("qty").sum()\nx x', 'columns: bad number in row 2 column 5'),
+    (ORDERS, "--only-named", '.sum()', 'jobs: line 1: syntax'),
+    (MIXED, "--only-named", 'a = column("a").toArray()\nb = column("b").toArray()', 'a = [1, 4]\nb = [3, 5]'),
+    (b'a,t,b\n1,"x', "--only-named", 'a = column("a").sum()', 'columns: wrong length of row 1'),
+    (b'a,t\n1,"x\n2,y', "--only-named", 'a = column("a").toArray()', 'a = [1]'),
+    (b'a\n1\n\n\t\n"" \n2', "--blank 7", 'a = column("a").toArray()', 'a = [1, 7, 7, 2]'),
+    (b'a\tb\n1\t\n" \t"\t2', "--separator tab --blank=-5", 'a = column("a").toArray()\nb = column("b").toArray()', 'a = [1, -5]\nb = [-5, 2]'),
+    (b'a|t,"x"|a2\n1|"|"|2\n', "--only-named --separator |", 'a = column("a2").sum()', 'a = 2'),
+    (b't,t,a,\n"",x,5,\n', "--only-named", 'a = column("a").sum()', 'a = 5'),
+    (b't,t,a,\n"",x,5,\n', "--only-named", 'a = column("a").sum()\nt = column("t").sum()', 'columns: same name'),
+    (b't,a\nx,5\nx\n', "--only-named", 'r = range(0, 3).sum()', 'columns: wrong length of row 2'),
+    (b'\n', "--only-named", 'r = range(0, 3).sum()', 'columns: no header'),
+    (','.join(f'c{at}' for at in range(3000)).encode() + b'\n' + b',' * 2999 + b'7\n', "--only-named", 'a = column("c2999").sum()', 'a = 7'),
+]
+
+
 def refused_texts():
     """(a job file, a column file or None, the number of --language, the line and the cause) of each row of refused.txt, for each
     language that it stands for"""
@@ -343,8 +377,17 @@ def of_all_versions(files):
 
 
 def cases():
-    """(a job file, a column file or None, 'text' or 'json', the number of --language, and the wanted standard output, standard error
-    and status)"""
+    """(a job file, a column file or None, 'text' or 'json', the number of --language, the wanted standard output, standard error
+    and status, and the options of the table) of each case."""
+    for jobs, columns, form, newest, wanted in plain_cases():
+        yield jobs, columns, form, newest, wanted, {}
+    for columns, words, jobs, said in TABLES:
+        is_refused = said.startswith(('columns:', 'jobs:'))
+        yield jobs, columns, 'text', LANGUAGES[0], ('', f'streamrun: {said}\n', 1) if is_refused else (f'{said}\n', '', 0), table_of(words.split())
+
+
+def plain_cases():
+    """The cases whose table is read as it is."""
     for jobs, newest, text in of_all_versions([(f'j = {job}\n', f'j = {answer}\n') for job, answer in ANSWERS] + REPORTS + LATER_REPORTS):
         yield jobs, COLUMNS, 'text', newest, (text, '', 0)
     for jobs, newest, text in of_all_versions(JSON):
@@ -373,21 +416,23 @@ def examples():
         name, text, columns = jobs[:-len('.jobs')], read(jobs), None if table is None else read(table)
         wanted = ((read(name + '.report').decode(), '', 0) if os.path.exists(name + '.report') else
                   ('', read(name + '.fault').decode(), 1))
+        table = options_beside(jobs)
         for newest in LANGUAGES:
             if newest >= newest_of(text):
-                yield text.decode(), columns, 'text', newest, wanted
+                yield text.decode(), columns, 'text', newest, wanted, table
         if os.path.exists(name + '.json'):
-            yield text.decode(), columns, 'json', newest_of(text), (read(name + '.json').decode(), '', 0)
+            yield text.decode(), columns, 'json', newest_of(text), (read(name + '.json').decode(), '', 0), table
 
 
 def compare_all(outcome_of):
     """Compares outcome_of, which is called as the model's `outcome` is, with all answers; it gives None for a file that takes too
     long."""
     tally = Tally('worked answers')
-    for jobs, columns, form, newest, wanted in [*cases(), *examples()]:
-        got = outcome_of(jobs.encode(), columns, form, newest)
+    for jobs, columns, form, newest, wanted, table in [*cases(), *examples()]:
+        got = outcome_of(jobs.encode(), columns, form, newest, table)
         if got is None:
             print(f'worked answers: left out, since they take too long: {jobs[:100]!r}')
         else:
-            tally.compare(f'{jobs[:200]!r}', (got[0].decode(), got[1].decode(), got[2]), wanted)
+            no_jobs = NO_JOBS.decode() if wanted in (('', '', 0), ('[]\n', '', 0)) else ''
+            tally.compare(f'{jobs[:200]!r}', (got[0].decode(), got[1].decode(), got[2]), (wanted[0], wanted[1] or no_jobs, wanted[2]))
     return tally.end()

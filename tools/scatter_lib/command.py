@@ -5,12 +5,15 @@ import re
 import sys
 import tempfile
 
+from streamrun_language.tables import SIGNS, sign_of
+
 from . import tables
 from .jobs import NotRead, read_jobs
 from .plan import Plan, Unmergeable, described
 from .processes import NoProgram, Processes
 from .running import Ended, Run, demand_mergeable
 
+NO_JOBS = 'streamrun: the job file has no job'
 EPILOG = 'What can be made of parts, and by which rule: docs/beyond-one-machine.md. The exit statuses are as with streamrun.'
 
 
@@ -27,8 +30,11 @@ def options_of(arguments):
     jobs = command('jobs', 'Writes the job file that each part runs, for streamrun-merge.')
     cut = command('cut', 'Cuts a table into files, and prints how many rows each has.')
     rows = command('rows', 'Prints how many rows each file of a table has.')
-    plan.add_argument('jobs', metavar='JOBS')
-    jobs.add_argument('jobs', metavar='JOBS')
+    for it in (plan, jobs):
+        add_language(it)
+        it.add_argument('jobs', metavar='JOBS')
+    for it in (cut, rows):
+        add_separator(it)
     cut.add_argument('--parts', type=positive, required=True, metavar='N', help='into how many parts')
     cut.add_argument('columns', metavar='FILE')
     cut.add_argument('folder', metavar='FOLDER', help='where the parts go, part-1.csv and so on; it is made if need be')
@@ -36,11 +42,23 @@ def options_of(arguments):
     return parser.parse_args(arguments)
 
 
+def add_language(command):
+    command.add_argument('--language', type=int, choices=(2, 3), default=2, metavar='N', help='read job files up to this version (2)')
+
+
+def add_separator(command):
+    command.add_argument('--separator', choices=[*SIGNS.values(), '\t'], default=',', metavar='SIGN', help='what stands between cells: , ; | or tab (,)')
+
+
 def add_run(run):
     run.add_argument('--parts', type=positive, metavar='N', help='cut the table into N parts; at most N run at once')
     run.add_argument('--scheduler', metavar='ADDRESS', help='run the parts on the workers of this Dask scheduler')
     run.add_argument('--at-workers', action='store_true', help='each FILE is WORKER:PATH, a file that lies at this worker')
     run.add_argument('--columns', metavar='FILE', nargs='+', required=True, help='a table to cut, or several that are its parts')
+    run.add_argument('--only-named', action='store_true', help='look at the columns that jobs name alone')
+    add_separator(run)
+    run.add_argument('--blank', type=int, metavar='NUMBER', help='read an empty cell as this number')
+    add_language(run)
     run.add_argument('--json', action='store_true', help='write the report as JSON')
     run.add_argument('--program', default='streamrun', metavar='PATH', help='the program (streamrun), for a worker its own')
     run.add_argument('--merger', default='streamrun-merge', metavar='PATH', help='the program that merges (streamrun-merge)')
@@ -70,14 +88,27 @@ def opened(what, path, take):
         raise Ended(f'streamrun: cannot open {what}', 4) from None
 
 
-def plan_of(path):
-    return Plan(read_jobs(opened('jobs', path, read)))
+def plan_of(options):
+    return Plan(read_jobs(opened('jobs', options.jobs, read), options.language))
+
+
+def words_of(options):
+    """The words that each run has of the command line: how the table is read, and the language."""
+    words = ['--only-named'] if options.only_named else []
+    words += ['--separator', options.separator] if options.separator != ',' else []
+    words += [] if options.blank is None else [f'--blank={options.blank}']
+    return words + language_of(options)
+
+
+def language_of(options):
+    """The words that ask for a language."""
+    return ['--language', str(options.language)] if options.language > 2 else []
 
 
 # The commands. Each gives the bytes for standard output.
 
 def plan_command(options):
-    plan = plan_of(options.jobs)
+    plan = plan_of(options)
     sys.stdout.write(''.join(f'{name}: {described(it)}\n' for name, it in plan.jobs.items()))
     sys.stdout.flush()
     plan.demand_mergeable()
@@ -85,7 +116,7 @@ def plan_command(options):
 
 
 def jobs_command(options):
-    plan = plan_of(options.jobs)
+    plan = plan_of(options)
     plan.demand_mergeable()
     for it in plan.jobs.values():
         if it.round > 1:
@@ -95,7 +126,7 @@ def jobs_command(options):
 
 
 def cut_command(options):
-    _, parts = opened('columns', [options.columns], lambda paths: tables.parts_of(paths, options.parts))
+    _, parts = opened('columns', [options.columns], lambda paths: tables.parts_of(paths, options.parts, sign_of(options.separator)))
     os.makedirs(options.folder, exist_ok=True)
     names = [f'part-{number:0{len(str(len(parts)))}}.csv' for number in range(1, len(parts) + 1)]
     others = {name for name in os.listdir(options.folder) if re.fullmatch(r'part-[0-9]+\.csv', name)} - set(names)
@@ -108,7 +139,7 @@ def cut_command(options):
 
 
 def rows_command(options):
-    return rows_line(opened('columns', options.columns, lambda paths: tables.parts_of(paths, 1))[1])
+    return rows_line(opened('columns', options.columns, lambda paths: tables.parts_of(paths, 1, sign_of(options.separator)))[1])
 
 
 def rows_line(parts):
@@ -127,20 +158,25 @@ def run_command(options):
         header, parts, jobs = table_and_jobs(options, folder, options.parts or processors())
         at_once = min(options.parts or len(parts), len(parts), processors())
         threads = options.workers or max(1, processors() // at_once)
-        runner = Processes(options.program, ['--workers', str(threads)], at_once)
-        return Run(jobs, header, parts, runner, options.merger).report(options.json)
+        runner = Processes(options.program, ['--workers', str(threads), *words_of(options)], at_once)
+        return run_of(options, jobs, header, parts, runner).report(options.json)
+
+
+def run_of(options, jobs, header, parts, runner):
+    """The run of a job file over these parts."""
+    return Run(jobs, header, parts, runner, [options.merger, *language_of(options)], options.language, options.only_named)
 
 
 def table_and_jobs(options, folder, count):
     """The table is opened first, as one run does."""
     paths = opened('columns', options.columns, lambda paths: [tables.regular(path, folder) for path in paths])
-    jobs = mergeable_jobs(options.jobs)
-    return *opened('columns', paths, lambda paths: tables.parts_of(paths, count)), jobs
+    jobs = mergeable_jobs(options)
+    return *opened('columns', paths, lambda paths: tables.parts_of(paths, count, sign_of(options.separator))), jobs
 
 
-def mergeable_jobs(path):
-    jobs = opened('jobs', path, read)
-    demand_mergeable(jobs)
+def mergeable_jobs(options):
+    jobs = opened('jobs', options.jobs, read)
+    demand_mergeable(jobs, options.language)
     return jobs
 
 
@@ -155,7 +191,8 @@ def outcome(arguments):
     """The bytes for standard output, the lines for standard error, and the status."""
     try:
         options = options_of(arguments)
-        return COMMANDS[options.command](options), '', 0
+        out = COMMANDS[options.command](options)
+        return out, NO_JOBS if options.command == 'run' and out in (b'', b'[]\n') else '', 0
     except Ended as ended:
         return b'', ended.lines, ended.status
     except (Unmergeable, NotRead, tables.OtherHeader) as refused:

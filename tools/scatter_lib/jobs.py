@@ -7,7 +7,8 @@ is no concern of a merge.
 from dataclasses import dataclass
 from typing import List, Optional
 
-from streamrun_language.lines import read_lines
+from streamrun_language.lambdas import WITH_ROWS, WORDS_OF_ROWS
+from streamrun_language.lines import NEWEST, read_lines
 from streamrun_language.operators import read_operator
 from streamrun_language.refusals import Refused, RefusedFile
 from streamrun_language.syntax import JobReader
@@ -17,13 +18,15 @@ from streamrun_language.tokens import Kind
 @dataclass
 class Part:
     """A source that is no concat, a stage, a terminal or a fallback, and where it begins. of: the column or the job that a
-    source names; is_empty: whether it is written without values."""
+    source names; is_empty: whether it is written without values; row: the first `cell(..)` or `row()` in the lambda of a stage or
+    a terminal."""
 
     name: str
     text: str
     start: int
     of: Optional[str] = None
     is_empty: bool = False
+    row: Optional[str] = None
 
 
 @dataclass
@@ -63,10 +66,10 @@ class NotRead(Exception):
         super().__init__(f'jobs: line {line}: this is no job; streamrun says why')
 
 
-def read_jobs(data):
-    """The jobs of a file, or NotRead."""
+def read_jobs(data, newest=NEWEST):
+    """The jobs of a file, or NotRead; newest: the newest version that is read."""
     try:
-        lines = read_lines(data)
+        lines = read_lines(data, newest)
     except RefusedFile as refused:
         raise NotRead(refused.job.line) from None
     jobs = {}
@@ -86,14 +89,23 @@ def read_job(job_text, version):
     syntax, text = JobReader(job_text.text, version).job(), job_text.text.decode('latin-1')
 
     def part(it):
-        return Part(it.name, text[it.start:it.end], it.start)
+        return Part(it.name, text[it.start:it.end], it.start, row=first_row(it.argument, text, version))
     plain = syntax.source.plain()
-    operator = read_operator(syntax.terminal.argument).name if syntax.terminal.name == 'reduce' else None
+    operator = read_operator(syntax.terminal.argument, version).name if syntax.terminal.name == 'reduce' else None
     return Job(syntax.name.text, job_text.line, text,
                [Part(it.name, text[it.start:it.end], it.start, it.word_text() if it.word else None,
                      it.name in ('of', 'empty') and not it.numbers) for it in plain],
                syntax.source.name == 'concat', [part(it) for it in syntax.stages], part(syntax.terminal),
                names_of(plain, syntax.tokens), operator, part(syntax.fallback) if syntax.fallback else None, version)
+
+
+def first_row(argument, text, version):
+    """The first `cell(..)` or `row()` of a lambda, or None. In files of earlier versions these are names like others."""
+    tokens = argument.tokens if argument and version >= WITH_ROWS else []
+    for word, after in zip(tokens, tokens[1:]):
+        if word.kind is Kind.NAME and word.text in WORDS_OF_ROWS and after.text == '(':
+            return text[word.start:next(it.end for it in tokens if it.text == ')' and it.start > after.start)]
+    return None
 
 
 def names_of(sources, tokens):

@@ -10,7 +10,7 @@ from streamrun_language.operators import EXACT
 
 from .records import array_in, number_in
 
-STAGES_OF_ITEMS = {'map', 'filter', 'flatMap'}
+STAGES_OF_ITEMS, EXACT_SUM = {'map', 'filter', 'flatMap'}, 'sumExact'
 SHOWN = 60
 # Jobs that give no number and no array, instead of one with a fault.
 NO_NUMBER, NO_ARRAY = '{} = range(0, 0).min()', '{} = of(0).map(x -> 1 / x).toArray()'
@@ -47,10 +47,13 @@ def refusal_of(job, columns, arrays, planned):
     beside = shown(columns[0].text)
     if job.is_concat:
         return f'concat with {shown(others[0].text)} beside {beside}' if others else f'concat beside {beside}'
-    for stage in job.stages:
-        if stage.name not in STAGES_OF_ITEMS:
-            return f'{shown(stage.text)} beside {beside}'
-    return f'{shown(job.terminal.text)} beside {beside}' if job.operator == EXACT.name else None
+    for part in [*job.stages, job.terminal]:
+        is_exact = part is job.terminal and (job.operator == EXACT.name or part.name == EXACT_SUM)
+        if is_exact or part is not job.terminal and part.name not in STAGES_OF_ITEMS:
+            return f'{shown(part.text)} beside {beside}'
+        if part.row:
+            return f'{shown(part.row)} beside {beside}'
+    return None
 
 
 def planned_job(job, planned):
@@ -99,7 +102,8 @@ class Plan:
                 lines[name] = it.job.written(array, is_of_parts)
                 waiting += [other for other in it.job.names if other != array]
         ordered = [name for name in self.jobs if name in lines]
-        version = ['version 2'] if any(it.job.version == 2 for it in self.jobs.values()) else []
+        versions = {it.job.version for it in self.jobs.values()} - {1}
+        version = [f'version {it}' for it in versions]
         return ordered, ''.join(line + '\n' for line in version + [lines[name] for name in ordered]).encode('latin-1')
 
 

@@ -54,37 +54,39 @@ def probe_of(jobs):
     return jobs + between + b'0\n', jobs.count(b'\n') + 2
 
 
-def demand_mergeable(jobs):
+def demand_mergeable(jobs, language):
     """Refuses a job file that can't be made of parts, before anything runs. What this can't read is for the program to
     refuse."""
     try:
-        plan = Plan(read_jobs(jobs))
+        plan = Plan(read_jobs(jobs, language))
     except NotRead:
         return
     plan.demand_mergeable()
 
 
-def merged(program, form, jobs, rows, reports):
-    """What the program of the merge writes of the parts' reports."""
+def merged(merger, form, jobs, rows, reports):
+    """What the program of the merge writes of the parts' reports; merger: its words."""
     with tempfile.TemporaryDirectory() as folder:
         paths = [os.path.join(folder, name) for name in ('jobs', *map(str, range(1, len(reports) + 1)))]
         for path, data in zip(paths, [jobs, *reports]):
             with open(path, 'wb') as file:
                 file.write(data)
         try:
-            ended = subprocess.run([program, *form, '--rows', ','.join(map(str, rows)), *paths], stdin=subprocess.DEVNULL, capture_output=True, check=False)
+            ended = subprocess.run([*merger, *form, '--rows', ','.join(map(str, rows)), *paths], stdin=subprocess.DEVNULL, capture_output=True, check=False)
         except OSError:
-            raise NoProgram(program) from None
+            raise NoProgram(merger[0]) from None
         if ended.returncode:
             raise Ended(f'scatter: the parts\' reports: {ended.stderr.decode(errors="replace")}'.rstrip('\n'), 3)
         return ended.stdout
 
 
 class Run:
-    """A job file over the parts of a table. runner: Processes or Workers; merger: the program that merges reports."""
+    """A job file over the parts of a table. runner: Processes or Workers; merger: the words of the program that merges reports;
+    language: the newest version of job files that is read; only_named: whether only the columns that jobs name are looked at."""
 
-    def __init__(self, jobs, header, parts, runner, merger, progress=None):
+    def __init__(self, jobs, header, parts, runner, merger, language, only_named, progress=None):
         self.jobs, self.parts, self.runner, self.merger = jobs, parts, runner, merger
+        self.language, self.only_named = language, only_named
         self.header = Part(None, header, 0, 0, 0)
         self.progress = progress or Progress(sys.stderr)
 
@@ -106,7 +108,8 @@ class Run:
         return found
 
     def demand_accepted(self):
-        """Ends as one run would if it refuses the header, or the job file; a bad row then comes first."""
+        """Ends as one run would if it refuses the header, or the job file; a bad row then comes first. A round looks at the columns
+        that its own jobs name, so before several rounds all rows are read once."""
         probe, line = probe_of(self.jobs)
         [(_, _, said)] = self.outcomes(probe, [self.header], 'job file', expected=LINE_OF_JOBS)
         refused = LINE_OF_JOBS.fullmatch(said)
@@ -115,6 +118,10 @@ class Run:
         if int(refused[1]) < line:
             self.outcomes(probe, self.parts, 'job file', expected=LINE_OF_JOBS)
             raise Ended(said.decode().rstrip('\n'), 1)
+        plan = Plan(read_jobs(self.jobs, self.language))
+        if self.only_named and plan.rounds > 1:
+            self.outcomes(probe, self.parts, 'table', expected=LINE_OF_JOBS)
+        return plan
 
     def report_together(self, together, records, form, text):
         """The report of jobs that run together."""
@@ -131,9 +138,8 @@ class Run:
 
     def report(self, is_json):
         """The report of the whole table. What was merged goes out as it is, if all jobs ran together."""
-        self.demand_accepted()
+        plan, records = self.demand_accepted(), {}
         form = ['--json'] if is_json else []
-        plan, records = Plan(read_jobs(self.jobs)), {}
         for number in range(1, plan.rounds + 1):
             for together in list(plan.runs(number, records, is_json)):
                 report = self.report_together(together, records, form, f'round {number} of {plan.rounds}')

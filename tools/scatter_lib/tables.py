@@ -53,20 +53,20 @@ def open_table(path):
         return b''
 
 
-def header_of(data):
-    """The names of the header and where it ends, or None and the end if there is no record."""
+def header_of(data, sign=','):
+    """The names of the header and where it ends, or None and the end if there is no record; sign: what stands between cells."""
     start = LINE_ENDS.match(data, len(MARK) if data[:len(MARK)] == MARK else 0).end()
     lines = Lines(data, start, len(data))
-    names = next(csv.reader(lines), None)
+    names = next(csv.reader(lines, delimiter=sign), None)
     return names, lines.at
 
 
-def spans(data, start):
+def spans(data, start, sign):
     """The records after the header: (False, from, to) for whole lines without a quote, (True, from, to) for one record
     with quotes."""
     end = len(data)
     lines = Lines(data, start, end)
-    records = csv.reader(lines)
+    records = csv.reader(lines, delimiter=sign)
     while start < end:
         quote = data.find(b'"', start)
         if quote < 0:
@@ -95,11 +95,11 @@ def rows_between(data, start, end):
     return rows
 
 
-def cuts(data, start, count):
+def cuts(data, start, count, sign):
     """(end, rows) of each of `count` parts of about one size. A part begins where a record does."""
     end, rows, found = len(data), 0, []
     targets = [start + (end - start) * number // count for number in range(1, count)]
-    for is_quoted, low, high in spans(data, start):
+    for is_quoted, low, high in spans(data, start, sign):
         at = low
         while targets and targets[0] <= high:
             target = targets.pop(0)
@@ -114,18 +114,18 @@ def rows_of_span(data, is_quoted, start, end):
     return int(start < end) if is_quoted else rows_between(data, start, end)
 
 
-def parts_of(paths, count):
+def parts_of(paths, count, sign=','):
     """The bytes of the header, and the parts: of one file `count`, of several files each."""
     tables = [open_table(path) for path in paths]
-    names, end = header_of(tables[0])
+    names, end = header_of(tables[0], sign)
     header = tables[0][:end]
     for path, data in zip(paths[1:], tables[1:]):
-        if header_of(data)[0] != names:
+        if header_of(data, sign)[0] != names:
             raise OtherHeader(f'{path}: another header than {paths[0]}')
     if len(paths) > 1:
-        return header, [Part(path, b'', 0, len(data), rows_of_table(data)) for path, data in zip(paths, tables)]
+        return header, [Part(path, b'', 0, len(data), rows_of_table(data, sign)) for path, data in zip(paths, tables)]
     found, start = [], end
-    for to, rows in cuts(tables[0], end, count):
+    for to, rows in cuts(tables[0], end, count, sign):
         found.append(Part(paths[0], header, start, to, rows))
         start = to
     return header, found
@@ -135,9 +135,9 @@ class OtherHeader(Exception):
     """A file that isn't of the table."""
 
 
-def rows_of_table(data):
+def rows_of_table(data, sign=','):
     """How many rows a table has."""
-    return cuts(data, header_of(data)[1], 1)[0][1]
+    return cuts(data, header_of(data, sign)[1], 1, sign)[0][1]
 
 
 def pieces_of(part):

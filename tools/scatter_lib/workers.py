@@ -11,8 +11,10 @@ import warnings
 from collections import Counter, namedtuple
 from concurrent.futures import CancelledError
 
+from streamrun_language.tables import sign_of
+
 from .processes import MOST_TRIES, NoProgram, outcome_of
-from .running import Ended, Run
+from .running import Ended
 from .tables import OtherHeader, header_of, open_table, pieces_of, rows_of_table
 
 DEBIAN = '/usr/bin/python3'
@@ -47,14 +49,14 @@ def run_there(program, options, jobs, path):
         return outcome_of(program, options, jobs, iter(lambda: file.read(2 ** 24), b''))
 
 
-def look_there(path):
+def look_there(path, sign):
     """(bytes and names of the header, number of rows) of a file that lies here, or None if it can't be opened."""
     try:
         data = open_table(path)
     except OSError:
         return None
-    names, end = header_of(data)
-    return data[:end], names, rows_of_table(data)
+    names, end = header_of(data, sign)
+    return data[:end], names, rows_of_table(data, sign)
 
 
 class Workers:
@@ -128,7 +130,7 @@ class Workers:
 def run_on_workers(options, folder):
     """The report of a run whose parts run on workers."""
     distributed = distributed_or_debian()
-    from .command import mergeable_jobs, table_and_jobs
+    from .command import mergeable_jobs, run_of, table_and_jobs, words_of
     logging.disable()  # What matters to the user is said in a line of our own.
     try:
         client = distributed.Client(options.scheduler, timeout=SECONDS_TO_CONNECT, set_as_default=False)
@@ -136,17 +138,17 @@ def run_on_workers(options, folder):
         raise Ended(f'scatter: no scheduler at {options.scheduler}', 4) from None
     with client:
         threads = ['--workers', str(options.workers)] if options.workers else []
-        runner = Workers(client, distributed, options.program, threads)
+        runner = Workers(client, distributed, options.program, [*threads, *words_of(options)])
         if options.at_workers:
-            jobs = mergeable_jobs(options.jobs)
-            header, parts = parts_there(runner, options.columns)
+            jobs = mergeable_jobs(options)
+            header, parts = parts_there(runner, options.columns, sign_of(options.separator))
         else:
             count = options.parts or max(1, sum(client.nthreads().values()))
             header, parts, jobs = table_and_jobs(options, folder, count)
-        return Run(jobs, header, parts, runner, options.merger).report(options.json)
+        return run_of(options, jobs, header, parts, runner).report(options.json)
 
 
-def parts_there(runner, words):
+def parts_there(runner, words, sign):
     """The header and the parts of files that lie at workers, each WORKER:PATH."""
     known = set()
     for address, about in runner.client.scheduler_info()['workers'].items():
@@ -155,7 +157,7 @@ def parts_there(runner, words):
     for worker, path in places:
         if worker not in known:
             raise Ended(f'scatter: {worker}:{path}: no worker {worker}', 4)
-    futures = [runner.send(look_there, path, worker=[worker]) for worker, path in places]
+    futures = [runner.send(look_there, path, sign, worker=[worker]) for worker, path in places]
     looks = [runner.result(future, word) for word, future in zip(words, futures)]
     for word, look in zip(words, looks):
         if look is None:

@@ -1,8 +1,8 @@
 -- What may stand between cells.
 use Rattle.std.proofs.Common.{refl}
-use Rattle.columns.specs.TableSettings.{byte_of}
-use Rattle.columns.specs.declared.separator.Separator.{Separator}
-use Rattle.columns.specs.declared.separator.Separator.TheVariants as separator
+use Rattle.run_settings.specs.TableSettings.{byte_of}
+use Rattle.run_settings.specs.declared.table.Separator.{Separator}
+use Rattle.run_settings.specs.declared.table.Separator.TheVariants as separator
 use Rattle.columns.specs.TextRows.{IsSeparator}
 
 -- a separator is no quote, line end, digit and minus sign

@@ -1,4 +1,4 @@
--- Meaning: what the bytes of a column file say.
+-- Design: what the bytes of a table of integers say, with commas and all its columns.
 use Rattle.std.specs.Prelude.{◌≡◌, ◌≢◌, ℕ, List, Result, Ok, Err, MatchResult}
 use Rattle.csv.specs.Reading.{default_config, records, strip_bom}
 use Rattle.columns.specs.declared.fault.ColumnFault.{ColumnFault}

@@ -1,7 +1,7 @@
 -- Condition: how a table is read, in memory, and what its rows are read by.
 use Rattle.std.specs.Prelude.{◌≡◌, ◌≢◌, ◌<◌, ℕ, List, Result, Ok, Err, MatchResult, length, map, option_map}
 use Rattle.csv.specs.Reading.{records, strip_bom}
-use Rattle.columns.specs.TableSettings.{byte_of}
+use Rattle.run_settings.specs.TableSettings.{byte_of}
 use Rattle.columns.specs.declared.fault.ColumnFault.{ColumnFault}
 use Rattle.columns.specs.declared.fault.ColumnFault.TheVariants.{Read, NoMemory}
 use Rattle.columns.specs.declared.layout.Layout.{Layout}

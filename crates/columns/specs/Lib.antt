@@ -13,5 +13,4 @@ pub mod Table
 pub mod TableCuts
 pub mod TableForms
 pub mod TableOfColumns
-pub mod TableSettings
 pub mod TextRows

@@ -1,5 +1,5 @@
--- Design: the columns of a table that is read as it is: with another sign between cells, columns that aren't looked at
--- and blank cells.
+-- Meaning: the columns of a table in a form: with this sign between cells, of all columns or the named ones, and with a
+-- number for blank cells or none.
 use Rattle.std.specs.Prelude.{◌+◌, ◌==◌, ◌||◌, [], ◌∷◌, ℕ, ℤ, Bool, true, not, List, Option, Some, None, Result, Err, length, map, is_some, if◌then◌else◌}
 use Rattle.std.specs.Fmt.{signed_decimal}
 use Rattle.std.specs.List.{list_all, list_any}

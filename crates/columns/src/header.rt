@@ -38,6 +38,7 @@ pub(crate) fn without_mark(bytes: &[u8]) -> &[u8]
     if has_mark(bytes) { &bytes[3..] } else { bytes }
 }
 
+/// Whether the bytes begin with a byte order mark.
 pub(crate) fn has_mark(bytes: &[u8]) -> bool
     ensures length { result ≡ true → 3 ≤ length bytes.now }
     ensures is { result

@@ -7,8 +7,8 @@ ghost use Rattle.columns.specs.Layouts.{IsLayout, form_of};
 ghost use Rattle.columns.specs.TableForms.{is_wanted};
 ghost use Rattle.columns.specs.TextRows.{marked};
 
-use crate::separator::Separator;
 use csv::ByteRecord;
+use run_settings::Separator;
 use std::alloc::{AllocError, Global};
 
 /// How a table is read.

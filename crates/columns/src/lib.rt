@@ -1,10 +1,11 @@
 //! Column files: tables with columns of integers, read into these columns or refused.
 //!
 //! Stands on `csv`, whose own definition of the records of a text is cited here, on `counted_io`, whose readers
-//! it gives out, and on `tables`. It is for the job reader, which takes a job's cells from `Columns::get`, and for the
-//! program. What it promises to them: `read_columns_as`, clause `cells`: the columns that the bytes give in a form,
-//! names and cells in order, or the first fault with its row and column; clause `read`: a failed read is reported only
-//! if one was counted. `read_columns` and, on threads, `read_columns_by` are its default.
+//! it gives out, on `run_settings`, whose separators stand between cells, and on `tables`. It is for the job reader,
+//! which takes a job's cells from `Columns::get`, and for the program. What it promises to them: `read_columns_as`,
+//! clause `cells`: the columns that the bytes give in a form, names and cells in order, or the first fault with its row
+//! and column; clause `read`: a failed read is reported only if one was counted. `read_columns` and, on threads,
+//! `read_columns_by` are its default.
 //! Laws: by default a table of integers is read (`by_default_tables_are_as_before`), and else what a cut to the named
 //! columns leaves (`named_columns_are_what_a_cut_leaves`).
 //!
@@ -30,7 +31,6 @@ mod records;
 mod round_bytes;
 mod rounds;
 mod rows;
-mod separator;
 mod text_cell;
 mod text_rows;
 
@@ -39,5 +39,4 @@ pub use fault::ColumnFault;
 pub use laws::{by_default_tables_are_as_before, named_columns_are_what_a_cut_leaves};
 pub use layout::TableForm;
 pub use reading::{read_columns, read_columns_as, read_columns_by};
-pub use separator::Separator;
 pub use tables::Columns;

@@ -33,7 +33,7 @@ use tables::{Column, Columns};
 /// for each cell. Rows of numbers, bare or whole in quotes, are read where they stand; from the first other row on, the
 /// file is read by its records. A read that fails otherwise than by an interruption is `Read`.
 ///
-/// For other programs: `streamrun` reads on threads, by `read_columns_by`.
+/// For other programs: `streamrun` reads on threads, by `read_columns_as`.
 pub fn read_columns<R: CountedRead>(alloc: Global, reader: &mut R) -> Result<Columns, ColumnFault>
     // Of a reader whose bytes are known.
     ensures cells { IfSome (R.remaining reader.old) (λ bytes. IsAnswerTo bytes result) }
@@ -60,6 +60,8 @@ pub fn read_columns<R: CountedRead>(alloc: Global, reader: &mut R) -> Result<Col
 /// put the cells under the columns. One worker reads and parses in turns: for it, and for a file of one piece, no
 /// thread is started. If a row isn't plain, all bytes from its pieces on are read whole and parsed on one thread: if
 /// the file is refused, or a number is quoted in part.
+///
+/// For other programs: `streamrun` reads a table in the form that its settings ask for, by `read_columns_as`.
 pub fn read_columns_by<H: Threads + Sync, R: CountedRead>(
     rt: &H,
     alloc: Global,
@@ -87,8 +89,6 @@ pub fn read_columns_by<H: Threads + Sync, R: CountedRead>(
 /// Only the columns with the wanted names are looked at, in the order of the file: 256 at most, none of them twice. The
 /// cells of other columns may hold anything, and are skipped where they stand; a fault says in which column of the file
 /// it is. Each row has as many cells as the header.
-///
-/// For other programs: `streamrun` reads tables of integers, by `read_columns_by`.
 pub fn read_columns_as<H: Threads + Sync, R: CountedRead>(
     rt: &H,
     alloc: Global,

@@ -1,5 +1,5 @@
 -- Condition: what the readers of a run hold, and whether a read of the column file failed.
-use Rattle.std.specs.Prelude.{◌≡◌, ◌≢◌, ℕ, ◌⊎◌, ⊤, List, Option, Some, None, IfSome, Result, Ok, IfErr, OnOk}
+use Rattle.std.specs.Prelude.{◌≡◌, ◌≢◌, ℕ, ◌⊎◌, ⊤, false, List, Option, Some, None, IfSome, Result, Ok, IfErr, OnOk}
 use Rattle.std.specs.Borrow.{MutBor}
 use Rattle.std.specs.Io.KnownBytes.{IsAtEnd, Keeps}
 use Rattle.std.proofs.Common.{inl, inr}
@@ -9,7 +9,7 @@ use Rattle.run_settings.specs.Asked.{Asked}
 use Rattle.counted_io.specs.FailureCounts.{HasRisen}
 use Rattle.engine.specs.declared.fault.EngineFault.{EngineFault}
 use Rattle.engine.specs.declared.fault.EngineFault.TheVariants.{Columns, JobsRead, Write}
-use Rattle.engine.specs.Run.{Faulted, Input, Reported, columns_of}
+use Rattle.engine.specs.Run.{Faulted, Input, Reported, columns_by, form_for}
 
 -- these are the bytes that a reader has left, if it is known which these are
 abbrev pub IsWhole : Option (List ℕ) → List ℕ → Type 0
@@ -41,7 +41,12 @@ IsAtEndThere remaining (Some before) after = ⊥
 abbrev pub HoldsWith : List NamedColumn → Option (List ℕ) → Asked → (Input → Type 0) → Type 0
 HoldsWith columns jobs asked P =
     (bytes : List ℕ) × IsWhole jobs bytes
-    × ((file : Option (List ℕ)) → columns_of file ≡ Ok columns → P (record { columns = file; jobs = bytes; asked = asked }))
+    × ((file : Option (List ℕ)) → columns_by (form_for asked bytes) file ≡ Ok columns → P (record { columns = file; jobs = bytes; asked = asked }))
+
+-- this holds of the column file and the job file that two readers have left, and with what is asked for
+abbrev pub HoldsOver : Option (List ℕ) → Option (List ℕ) → Asked → (Input → Type 0) → Type 0
+HoldsOver columns jobs asked P =
+    (file : List ℕ) × IsWhole columns file × (bytes : List ℕ) × IsWhole jobs bytes × P (record { columns = Some file; jobs = bytes; asked = asked })
 
 -- the answer of a run over these readers, what is asked for, and a writer that held these bytes before and
 -- those after: the report was written, or a fault says why not
@@ -56,11 +61,11 @@ pub record CountedBytes : Type 0 where
   pub failures : ℕ
 
 -- what a run leaves of the reader of jobs and of its writer, after this answer: after a report the job file is read up;
--- after the refusal of a column file it is as it was; if no write failed nothing was written; and a failed read or write
--- was counted
-pub record IsLeft {X : Type 0} (jobs jobs_after writer writer_after : CountedBytes) (answer : Result X EngineFault) : Type 0 where
+-- after the refusal of a column file that is read first it is as it was; if no write failed nothing was written; and a
+-- failed read or write was counted
+pub record IsLeft {X : Type 0} (asked : Asked) (jobs jobs_after writer writer_after : CountedBytes) (answer : Result X EngineFault) : Type 0 where
   pub read_up : OnOk answer (IsAtEnd jobs_after.bytes)
-  pub unread : IfErr answer (λ fault. (cause : ColumnFault) → fault ≡ Columns cause → (jobs_after.bytes ≡ jobs.bytes) × (jobs_after.failures ≡ jobs.failures))
+  pub unread : asked.table.only_named ≡ false → IfErr answer (λ fault. (cause : ColumnFault) → fault ≡ Columns cause → (jobs_after.bytes ≡ jobs.bytes) × (jobs_after.failures ≡ jobs.failures))
   pub unwritten : IfErr answer (λ fault. ((n : ℕ) → fault ≢ Write n) → Keeps writer.bytes writer_after.bytes)
   pub untouched : IfErr answer (λ fault. ((n : ℕ) → fault ≢ Write n) → writer_after.failures ≡ writer.failures)
   pub read_failed : IfErr answer (λ fault. fault ≡ JobsRead → HasRisen jobs.failures jobs_after.failures)

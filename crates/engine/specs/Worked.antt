@@ -1,5 +1,6 @@
 -- Design: a small job file of each version, with one job.
 use Rattle.std.specs.Prelude.{ℕ, List, ◌++◌, codes, None}
+use Rattle.run_settings.specs.TableSettings.{integers}
 use Rattle.run_settings.specs.declared.settings.Form.TheVariants as form
 use Rattle.engine.specs.Run.{Input}
 
@@ -10,7 +11,7 @@ job_text = codes "s = of(1).prefix(0, 2, sum).count().onFault(-1)"
 -- what a run is given whose job file this is; there is no column file, the report is text, and version 2 is
 -- the newest
 abbrev pub jobs_alone : List ℕ → Input
-jobs_alone bytes = record { columns = None; jobs = bytes; asked = record { form = form.Text; newest = 2 } }
+jobs_alone bytes = record { columns = None; jobs = bytes; asked = record { form = form.Text; newest = 2; table = integers } }
 
 -- the job in a file of version 2
 abbrev pub in_version_two : Input

@@ -9,6 +9,9 @@ pub trait RunGate: Gate {
     /// walk goes over, as far as that is known then; it is 0 of a job that is walked through its slices, in one piece.
     fn before_job(&self, _job: usize, _items: u64) {}
 
+    /// Called once all jobs have answers, if one of them is a fault or says that its job is unusable.
+    fn without_value(&self) {}
+
     /// Called before the first byte of the report is written. No call of the gate comes after it.
     fn before_report(&self) {}
 }

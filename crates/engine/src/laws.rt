@@ -6,8 +6,9 @@ ghost use Rattle.columns.specs.declared.fault.ColumnFault.TheVariants as column;
 ghost use Rattle.job_language.specs.declared.fault.Cause.TheVariants as cause;
 ghost use Rattle.job_language.specs.declared.fault.JobFault.{JobFault as meant_job_fault};
 ghost use Rattle.engine.specs.declared.fault.EngineFault.TheVariants as engine_fault;
-ghost use Rattle.engine.specs.Outcomes.{HasOutcome, Outcome, columns_refused, in_language, jobs_refused};
-ghost use Rattle.engine.specs.Run.{Faulted, Input, IsReport, Reported, Says};
+ghost use Rattle.engine.specs.Outcomes.{HasOutcome, Outcome, columns_of, columns_refused, in_language, jobs_refused};
+ghost use Rattle.engine.specs.Run.{Faulted, Input, IsReport, Reported, Says, columns_given};
+ghost use Rattle.run_settings.specs.TableSettings.{integers};
 ghost use Rattle.engine.specs.Worked.{in_version_one, in_version_two};
 
 /// Each input gives one thing: a report, a refusal of the column file, or a refusal of the job file, and no two of
@@ -26,7 +27,7 @@ pub fn refusals_are_outcomes()
 {}
 
 /// Two runs over one input that each answered a report wrote equal bytes. By `run`, clause `report`, an input is the
-/// bytes of the two files and the form of the report: so neither the other settings nor the schedule changes a byte.
+/// bytes of the two files and what the settings ask for: so neither the other settings nor the schedule changes a byte.
 /// After a failed write the bytes that went out are the first ones of that report.
 pub fn settings_change_no_byte()
     ensures reports { (input : Input) (a b : List ℕ) → IsReport input a → IsReport input b → a ≡ b }
@@ -42,6 +43,12 @@ pub fn settings_change_no_byte()
 pub fn worked_files()
     ensures two { IsReport in_version_two (codes "s = -1\n") }
     ensures one { HasOutcome in_version_one (jobs_refused (record { line = 1; cause = cause.Syntax })) }
+{}
+
+/// Where a table of integers with commas is asked for, whose columns are all looked at, an input gives the columns of
+/// its file whatever its jobs.
+pub fn by_default_tables_of_integers_are_read()
+    ensures { (input : Input) → input.asked.table ≡ integers → columns_given input ≡ columns_of input.columns }
 {}
 
 /// A report where version 2 of the language is the newest is the report where version 3 is.

@@ -13,14 +13,15 @@
 mod fault;
 mod gate;
 mod laws;
+mod reporting;
 mod running;
 mod telling;
 
 pub use fault::EngineFault;
 pub use gate::RunGate;
 pub use laws::{
-    a_later_language_changes_no_report, each_input_has_one_outcome, refusals_are_outcomes,
-    settings_change_no_byte, worked_files,
+    a_later_language_changes_no_report, by_default_tables_of_integers_are_read,
+    each_input_has_one_outcome, refusals_are_outcomes, settings_change_no_byte, worked_files,
 };
 pub use running::run;
 pub use telling::{status_after, tell, write_line};

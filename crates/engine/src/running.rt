@@ -1,33 +1,27 @@
 //! A run: from the bytes of the column file and of the job file to the bytes of the report.
 
+ghost use Rattle.columns.specs.Layouts.{IsAnswerBy};
 ghost use Rattle.counted_io.specs.FailureCounts.{HasRisen};
-ghost use Rattle.engine.specs.Given.{HasRisenThere, HoldsWith, IsAtEndThere, IsGiven};
-ghost use Rattle.engine.specs.Refused.{IsEarly};
-ghost use Rattle.engine.specs.Run.{Faulted, Input, IsReport, Reported, Says, columns_of, report_in};
-ghost use Rattle.job_language.specs.Jobs.{jobs_of, names_of};
-ghost use Rattle.job_meaning.specs.FileAnswers.{meaning_of};
-ghost use Rattle.job_plan.specs.Plans.{plan_names};
+ghost use Rattle.engine.specs.Given.{HasRisenThere, HoldsOver, HoldsWith, IsAtEndThere, IsGiven, IsWhole};
+ghost use Rattle.engine.specs.Refused.{IsCutShort, IsEarly, IsUnread};
+ghost use Rattle.engine.specs.Run.{Faulted, Input, IsReport, Reported, Says, form_with};
 ghost use Rattle.run_settings.specs.Asked.{asked_of};
-ghost use Rattle.run_settings.specs.SettingsParts.{form_of};
-ghost use Rattle.report.specs.Named.{IsNamed, IsText};
-ghost use Rattle.std.specs.Io.KnownBytes.{IsAtEnd, Keeps};
-ghost use Rattle.std.specs.Prelude.{◌≡◌, ◌≢◌, ℕ, All, List, length, map, Option, Ok, IfErr, IfOk, OnOk};
-ghost use Rattle.stream_tokens.specs.Forms.{IsName};
+ghost use Rattle.run_settings.specs.SettingsParts.{table_of};
+ghost use Rattle.std.specs.Io.KnownBytes.{Appends, IsAtEnd, Keeps};
+ghost use Rattle.std.specs.Prelude.{◌≡◌, ◌≢◌, ◌≤◌, ℕ, false, true, List, map, option_map, IfErr, IfOk, OnErr, OnOk};
 
 use crate::fault::EngineFault;
 use crate::gate::RunGate;
-use columns::{ColumnFault, Columns, read_columns_by};
+use crate::reporting::report_of;
+use columns::{ColumnFault, Columns, TableForm, read_columns_as};
 use counted_io::{CountedRead, CountedWrite, ReadAllFault, WriteFault, read_all_of};
-use job_language::{Job, read_jobs_within};
-use job_meaning::Answer;
-use job_plan::{JobPlan, Plan};
-use job_table::{RunFault, run_jobs};
-use report::{Report, json_by, text_by, write_report};
-use run_settings::{Form, Settings};
+use job_names::names_in;
+use report::{Report, write_report};
+use run_settings::Settings;
 use std::alloc::Global;
 use std::sync::Wait;
 use std::thread::Threads;
-use stream_tokens::{Bytes, NoMemory};
+use stream_tokens::JobTexts;
 
 /// How many bytes of a column file one thread reads at a time, at most.
 const PIECE: usize = 4 * 1024 * 1024;
@@ -41,7 +35,9 @@ const ROUND: usize = 4 * PIECE;
 /// The columns are read and the jobs run on threads, no more than the settings say. A piece of at most the threshold is
 /// never cut; a longer one is, while nodes last, unless the walk goes through a slice that doesn't select positions of
 /// the source. The gate is called before each piece, and one that does nothing will do. None of this changes the
-/// report. The cells of the columns, the job file and the report are each held in memory once. While the cells are
+/// report. Where the settings look only at the columns that jobs name, the job file is read first, and a column file is
+/// refused before its jobs all the same. The cells of the columns, the job file and the report are each held in memory
+/// once. While the cells are
 /// read, the bytes of a column file of at most 4 MiB for each thread, and 16 MiB in all, are held whole, of a longer
 /// one twice that many, or all that are left from a row with quotes on; the cells of one piece for each thread are held
 /// beside. If the column file is refused, the job file isn't read.
@@ -72,7 +68,8 @@ pub fn run<
     ensures read_up { OnOk result (IsAtEnd (J.remaining jobs.new)) }
     ensures columns_read_up { OnOk result (IsAtEndThere C.remaining columns.entry columns.exit) }
 
-    ensures unread { IfErr result (λ fault. (cause : ColumnFault) → fault ≡ EngineFault.Columns cause →
+    ensures unread { (table_of settings.now).only_named ≡ false
+        → IfErr result (λ fault. (cause : ColumnFault) → fault ≡ EngineFault.Columns cause →
         (J.remaining jobs.new ≡ J.remaining jobs.old) × (J.failures jobs.new ≡ J.failures jobs.old)) }
     ensures unwritten { IfErr result (λ fault. ((n : ℕ) → fault ≢ EngineFault.Write n) →
         Keeps (W.contents writer.old) (W.contents writer.new)) }
@@ -87,9 +84,10 @@ pub fn run<
 {
     match columns {
         Some(reader) => {
-            let workers = settings.workers() as usize;
-            let piece = PIECE.min(ROUND / workers);
-            let table = match read_columns_by(rt, alloc, reader, workers, piece) {
+            if settings.table().only_named {
+                return run_named(rt, alloc, reader, jobs, writer, settings, gate);
+            }
+            let table = match read_table(rt, alloc, reader, settings, None) {
                 Ok(table) => table,
                 Err(fault) => return Err(EngineFault::Columns(fault)),
             };
@@ -128,11 +126,7 @@ fn run_with<H: Threads + Wait + Sync, J: CountedRead, W: CountedWrite, G: RunGat
         Ok(report) => report,
         Err(fault) => return Err(fault),
     };
-    gate.before_report();
-    match write_report(writer, &report) {
-        Ok(()) => Ok(()),
-        Err(WriteFault { written }) => Err(EngineFault::Write { written }),
-    }
+    send(writer, &report, gate)
 }
 
 /// The report of the job file that this reader has left, with these columns.
@@ -153,101 +147,145 @@ fn report_from<H: Threads + Wait + Sync, J: CountedRead, G: RunGate + Sync>(
     ensures read_failed { IfErr result (λ fault. fault ≡ EngineFault.JobsRead →
         HasRisen (J.failures jobs.old) (J.failures jobs.new)) }
 {
-    let bytes = match read_all_of(alloc, jobs) {
+    let bytes = match jobs_of(alloc, jobs) {
         Ok(bytes) => bytes,
-        Err(ReadAllFault::Failed) => return Err(EngineFault::JobsRead),
-        Err(ReadAllFault::NoMemory) => return Err(EngineFault::NoMemory),
+        Err(fault) => return Err(fault),
     };
     report_of(rt, alloc, columns, &bytes, settings, gate)
 }
 
-/// The report of the jobs that these bytes spell, with these columns.
-fn report_of<H: Threads + Wait + Sync, G: RunGate + Sync>(
+/// The run where only the columns that jobs name are looked at: the job file is read first, then these columns.
+fn run_named<
+    H: Threads + Wait + Sync,
+    C: CountedRead,
+    J: CountedRead,
+    W: CountedWrite,
+    G: RunGate + Sync,
+>(
     rt: &H,
     alloc: Global,
-    columns: &Columns,
-    bytes: &[u8],
+    columns: &mut C,
+    jobs: &mut J,
+    writer: &mut W,
+    settings: &Settings,
+    gate: &G,
+) -> Result<(), EngineFault>
+    requires { (table_of settings.now).only_named ≡ true }
+    ensures report { OnOk result (HoldsOver (C.remaining columns.old) (J.remaining jobs.old) (asked_of settings.now)
+        (λ input. Reported input (W.contents writer.old) (W.contents writer.new))) }
+    ensures fault { IfErr result (λ fault. HoldsOver (C.remaining columns.old) (J.remaining jobs.old)
+        (asked_of settings.now) (λ input. Faulted input (W.contents writer.old) (W.contents writer.new) fault)) }
+    ensures read_up { OnOk result (IsAtEnd (J.remaining jobs.new)) }
+    ensures columns_read_up { OnOk result (IsAtEnd (C.remaining columns.new)) }
+    ensures unwritten { IfErr result (λ fault. ((n : ℕ) → fault ≢ EngineFault.Write n) →
+        Keeps (W.contents writer.old) (W.contents writer.new)) }
+    ensures untouched { IfErr result (λ fault. ((n : ℕ) → fault ≢ EngineFault.Write n) →
+        W.failures writer.new ≡ W.failures writer.old) }
+    ensures columns_failed { IfErr result (λ fault. fault ≡ EngineFault.Columns ColumnFault.Read →
+        HasRisen (C.failures columns.old) (C.failures columns.new)) }
+    ensures read_failed { IfErr result (λ fault. fault ≡ EngineFault.JobsRead →
+        HasRisen (J.failures jobs.old) (J.failures jobs.new)) }
+    ensures write_failed { IfErr result (λ fault. (n : ℕ) → fault ≡ EngineFault.Write n →
+        HasRisen (W.failures writer.old) (W.failures writer.new)) }
+{
+    let report = match report_named(rt, alloc, columns, jobs, settings, gate) {
+        Ok(report) => report,
+        Err(fault) => return Err(fault),
+    };
+    send(writer, &report, gate)
+}
+
+/// The report of the job file that this reader has left, over the columns that its jobs name.
+fn report_named<H: Threads + Wait + Sync, C: CountedRead, J: CountedRead, G: RunGate + Sync>(
+    rt: &H,
+    alloc: Global,
+    columns: &mut C,
+    jobs: &mut J,
     settings: &Settings,
     gate: &G,
 ) -> Result<Report, EngineFault>
-    ensures ok { IfOk result (λ report. (file : Option (List ℕ)) → columns_of file ≡ Ok columns.now
-        → IsReport (record { columns = file; jobs = bytes.now; asked = asked_of settings.now }) report) }
-    ensures err { IfErr result (λ fault. (file : Option (List ℕ)) → columns_of file ≡ Ok columns.now
-        → Says (record { columns = file; jobs = bytes.now; asked = asked_of settings.now }) fault) }
-    ensures early { IfErr result IsEarly }
-    ensures read { IfErr result (λ fault. fault ≢ EngineFault.JobsRead) }
+    requires { (table_of settings.now).only_named ≡ true }
+    ensures ok { IfOk result (λ report. HoldsOver (C.remaining columns.old) (J.remaining jobs.old)
+        (asked_of settings.now) (λ input. IsReport input report)) }
+    ensures err { IfErr result (λ fault. HoldsOver (C.remaining columns.old) (J.remaining jobs.old)
+        (asked_of settings.now) (λ input. Says input fault)) }
+    ensures end { OnOk result (IsAtEnd (J.remaining jobs.new)) }
+    ensures columns_end { OnOk result (IsAtEnd (C.remaining columns.new)) }
+    ensures unwritten { IfErr result (λ fault. (n : ℕ) → fault ≢ EngineFault.Write n) }
+    ensures columns_failed { IfErr result (λ fault. fault ≡ EngineFault.Columns ColumnFault.Read →
+        HasRisen (C.failures columns.old) (C.failures columns.new)) }
+    ensures read_failed { IfErr result (λ fault. fault ≡ EngineFault.JobsRead →
+        HasRisen (J.failures jobs.old) (J.failures jobs.new)) }
 {
-    let jobs = match read_jobs_within(alloc, bytes, columns, settings.language().newest()) {
-        Ok(jobs) => jobs,
-        Err(fault) => return Err(EngineFault::Jobs(fault)),
+    let bytes = match jobs_of(alloc, jobs) {
+        Ok(bytes) => bytes,
+        Err(fault) => return Err(fault),
     };
-    match written(rt, alloc, jobs, settings, gate) {
-        Ok(report) => Ok(report),
-        Err(_) => Err(EngineFault::NoMemory),
+    let mut texts = JobTexts::within(settings.language().newest(), &bytes);
+    let Ok(names) = names_in(alloc, &mut texts) else {
+        return Err(EngineFault::NoMemory);
+    };
+    let table = match read_table(rt, alloc, columns, settings, Some(names)) {
+        Ok(table) => table,
+        Err(fault) => return Err(EngineFault::Columns(fault)),
+    };
+    report_of(rt, alloc, &table, &bytes, settings, gate)
+}
+
+/// The columns that a file gives in the form that the settings ask for; of these names alone, if some are given.
+fn read_table<H: Threads + Sync, C: CountedRead>(
+    rt: &H,
+    alloc: Global,
+    reader: &mut C,
+    settings: &Settings,
+    names: Option<Vec<Vec<u8>>>,
+) -> Result<Columns, ColumnFault>
+    ensures answer { (bytes : List ℕ) × IsWhole (C.remaining reader.old) bytes
+        × IsAnswerBy (form_with (table_of settings.now)
+        (option_map (λ names. map (λ name. name.items) names.items) names)) bytes result }
+    ensures end { OnOk result (IsAtEnd (C.remaining reader.new)) }
+    ensures read { IfErr result (λ fault. fault ≡ ColumnFault.Read
+        → HasRisen (C.failures reader.old) (C.failures reader.new)) }
+{
+    let workers = settings.workers() as usize;
+    let piece = PIECE.min(ROUND / workers);
+    let table = settings.table();
+    let form = TableForm {
+        separator: table.separator,
+        names,
+        blank: table.blank,
+    };
+    read_columns_as(rt, alloc, reader, workers, piece, &form)
+}
+
+/// The bytes that a reader of a job file has left.
+fn jobs_of<J: CountedRead>(alloc: Global, jobs: &mut J) -> Result<Vec<u8>, EngineFault>
+    ensures bytes { IfOk result (λ bytes. IsWhole (J.remaining jobs.old) bytes.items) }
+    ensures end { OnOk result (IsAtEnd (J.remaining jobs.new)) }
+    ensures early { IfErr result IsUnread }
+    ensures read_failed { IfErr result (λ fault. fault ≡ EngineFault.JobsRead →
+        HasRisen (J.failures jobs.old) (J.failures jobs.new)) }
+{
+    match read_all_of(alloc, jobs) {
+        Ok(bytes) => Ok(bytes),
+        Err(ReadAllFault::Failed) => Err(EngineFault::JobsRead),
+        Err(ReadAllFault::NoMemory) => Err(EngineFault::NoMemory),
     }
 }
 
-/// The report of jobs.
-fn written<H: Threads + Wait + Sync, G: RunGate + Sync>(
-    rt: &H,
-    alloc: Global,
-    jobs: Vec<Job>,
-    settings: &Settings,
+/// Writes a report, after a word to the gate.
+fn send<W: CountedWrite, G: RunGate>(
+    writer: &mut W,
+    report: &Report,
     gate: &G,
-) -> Result<Report, NoMemory>
-    requires names { All IsName (names_of (jobs_of jobs.items)) }
-    ensures { IfOk result (λ report. report
-        ≡ report_in (form_of settings.now) (names_of (jobs_of jobs.entry.items))
-        (meaning_of (jobs_of jobs.entry.items))) }
+) -> Result<(), EngineFault>
+    ensures ok { OnOk result (Appends (W.contents writer.old) (W.contents writer.new) report.now) }
+    ensures err { IfErr result (IsCutShort report.now (W.contents writer.old) (W.contents writer.new)) }
+    ensures failed { OnErr result (HasRisen (W.failures writer.old) (W.failures writer.new)) }
 {
-    let plan = Plan::of(alloc, jobs)?;
-    announce(&plan, gate);
-    let answers = match run_jobs(rt, alloc, &plan, settings, gate) {
-        Ok(answers) => answers,
-        Err(RunFault::NoMemory) => return Err(NoMemory),
-    };
-    let names = names_in(alloc, plan.jobs)?;
-    printed(rt, alloc, &names, &answers, settings)
-}
-
-/// Says to the gate which jobs there are.
-fn announce<G: RunGate>(plan: &Plan, gate: &G) {
-    for (number, job) in plan.jobs.iter().enumerate() {
-        let items = if job.leg(0).streams() {
-            0
-        } else {
-            job.likely_size
-        };
-        gate.before_job(number, items);
+    gate.before_report();
+    match write_report(writer, report) {
+        Ok(()) => Ok(()),
+        Err(WriteFault { written }) => Err(EngineFault::Write { written }),
     }
-}
-
-/// The report of answers in the form that the settings ask for.
-fn printed<H: Threads + Sync>(
-    rt: &H,
-    alloc: Global,
-    names: &[Bytes],
-    answers: &[Answer],
-    settings: &Settings,
-) -> Result<Report, NoMemory>
-    requires paired { length names.now ≡ length answers.now }
-    requires named { All (IsNamed names.now) answers.now }
-    requires text { All IsText names.now }
-    ensures { IfOk result (λ report. report ≡ report_in (form_of settings.now) names.now answers.now) }
-{
-    match settings.form() {
-        Form::Text => text_by(rt, alloc, settings.workers() as usize, names, answers),
-        Form::Json => json_by(rt, alloc, settings.workers() as usize, names, answers),
-    }
-}
-
-/// The names of planned jobs, in their order; nothing is copied.
-fn names_in(alloc: Global, jobs: Vec<JobPlan>) -> Result<Vec<Bytes>, NoMemory>
-    ensures { IfOk result (λ names. names.items ≡ plan_names jobs.entry.items) }
-{
-    let mut names = Vec::new(alloc);
-    for job in jobs {
-        names.push(job.into_name())?;
-    }
-    Ok(names)
 }

@@ -1,4 +1,4 @@
--- Design: the names in the jobs of a file: what stands between double quotes.
+-- Meaning: the names in the jobs of a file: what stands between double quotes.
 use Rattle.std.specs.Prelude.{ℕ, ◌==◌, ◌++◌, List, [], ◌∷◌, Option, Some, None, Result, Ok, Err, if◌then◌else◌}
 use Rattle.stream_tokens.specs.declared.job_text.JobText.{JobText}
 use Rattle.stream_tokens.specs.declared.job_text.TextFault.{TextFault}

@@ -7,8 +7,6 @@ use stream_tokens::{JobTexts, TextFault};
 
 /// What stands between double quotes in these texts, in order: the columns that jobs name, if they are in the language.
 /// A file whose texts can't be listed has none.
-///
-/// For other programs: `streamrun` reads all columns of a table.
 pub fn names_in(alloc: Global, texts: &mut JobTexts<'_>) -> Result<Vec<Vec<u8>>, AllocError>
     ensures { IfOk result (λ names. map (λ name. name.items) names.items ≡ names_of_texts texts.old) }
 {

@@ -13,7 +13,7 @@ use crate::work::TableWork;
 use worker_pool::Gate;
 
 /// Walks a piece with what the job takes of earlier answers.
-fn walked<S: JobSegments, R: RunBrand, G, P>(
+fn walked<S: JobSegments, R: RunBrand, G: Gate, P>(
     work: &TableWork<S, R>,
     piece: Piece,
     kept: &KeptGiven<S>,

@@ -12,7 +12,7 @@ pub(crate) struct Tools<'w, S: JobSegments, V, K: Fits<V, Tag = CutPiece>, R: Ru
     pub(crate) gate: &'w G,
     pub(crate) spawn: &'w mut P,
     pub(crate) scratch: S::Scratch,
-    pub(crate) watch: Watch<'w, S, R>,
+    pub(crate) watch: Watch<'w, 'w, S, R, G>,
     pub(crate) spare: Option<Spare<V, K, R>>,
 }
 

@@ -80,7 +80,10 @@ fn leaf<S: JobSegments, R: RunBrand, G: Gate, P>(
 }
 
 /// Whether a place at or before the first position of a piece is known to decide what the segment gives.
-fn is_left_out<S: JobSegments, R: RunBrand>(watch: &mut Watch<'_, S, R>, piece: Piece) -> bool
+fn is_left_out<S: JobSegments, R: RunBrand, G>(
+    watch: &mut Watch<'_, '_, S, R, G>,
+    piece: Piece,
+) -> bool
     requires known { (piece.job < S.run.jobs) × (piece.segment ≤ S.run.last piece.job) }
 {
     watch.aim(piece.job, piece.segment);

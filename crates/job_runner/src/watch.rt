@@ -16,10 +16,13 @@ use early_stop::{CutSeat, Stop};
 use pending_count::{Place, Side};
 use std::marker::PhantomData;
 use std::thread::yield_now;
+use worker_pool::Gate;
 
-/// A worker's seat at the words of early stop, and the segment that it asks about, if it has a word.
+/// A worker's seat at the words of early stop, the segment that it asks about, if it has a word, and the gate that is
+/// called as it asks on its way.
 #[derive(Drop)]
-pub struct Watch<'w, S: JobSegments, R: RunBrand> {
+pub struct Watch<'w, 'g, S: JobSegments, R: RunBrand, G> {
+    pub(crate) gate: &'g G,
     pub(crate) jobs: &'w S,
     pub(crate) places: &'w [JobPlaces<S>],
     pub(crate) stops: &'w RunStops<S>,
@@ -34,7 +37,7 @@ pub struct Watch<'w, S: JobSegments, R: RunBrand> {
         × (segment ≤ S.run.last job) },
 }
 
-impl<S: JobSegments, R: RunBrand> Watch<'_, S, R> {
+impl<S: JobSegments, R: RunBrand, G> Watch<'_, '_, S, R, G> {
     /// From here on the segment is asked about.
     pub(crate) fn aim(&mut self, job: usize, segment: usize)
         requires known { (job < S.run.jobs) × (segment ≤ S.run.last job) }
@@ -82,17 +85,18 @@ impl<S: JobSegments, R: RunBrand> Watch<'_, S, R> {
     }
 }
 
-impl<S: JobSegments, R: RunBrand> Stop for Watch<'_, S, R> {
+impl<S: JobSegments, R: RunBrand, G: Gate> Stop for Watch<'_, '_, S, R, G> {
     ghost decides = { λ w c. DecidesIn S.run w.job w.segment c };
 
     fn place(&mut self) -> u64 {
         // With more workers than processors, the one that knows the place may be waiting for this worker's processor.
         yield_now();
+        self.gate.at_stretch(self.job);
         self.seen()
     }
 }
 
-impl<S: JobSegments, R: RunBrand> Looker<SegmentPart<S>> for Watch<'_, S, R> {
+impl<S: JobSegments, R: RunBrand, G> Looker<SegmentPart<S>> for Watch<'_, '_, S, R, G> {
     fn look(&mut self, at: &Place<CutPiece>, value: &TablePart<S>) {
         if self.word == u32::MAX
             || at.side == Side::Whole

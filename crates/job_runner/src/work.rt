@@ -104,10 +104,11 @@ impl<'a, S: JobSegments, R: RunBrand> JobWork<'a, S, TablePart<S>, TableKept<S>,
     }
 
     /// What a worker asks the words of early stop with, about no segment yet.
-    fn watch(&self, seat: CutSeat) -> Watch<'_, S, R>
+    fn watch<'w, 'g, G>(&'w self, gate: &'g G, seat: CutSeat) -> Watch<'w, 'g, S, R, G>
         requires seat { stop_table_of seat ≡ R.stops }
     {
         Watch {
+            gate,
             jobs: self.jobs,
             places: &self.places,
             stops: &self.stops,
@@ -180,7 +181,7 @@ where
             gate,
             spawn,
             scratch,
-            watch: self.watch(stop_seat),
+            watch: self.watch(gate, stop_seat),
             spare,
         };
         self.take(task, &mut tools, self.nodes.starts.len());

@@ -2,13 +2,11 @@
 //!
 //! It stands on `stream_tokens`, which cuts a text into tokens, and on `lambda_values`, which has the
 //! expressions and their values. Its users:
-//! - `job_language` reads lambdas by `read_lambda_of`, clauses `ok` and `refused`: a part of a text that
-//!   is cut already gives the lambda that it spells, or the first refusal that applies, a syntax fault
-//!   with its column. It reads numbers by `is_number` and
+//! - `job_language` reads lambdas by `read_lambda_within`, clauses `ok` and `refused`: a part of a text that is cut
+//!   already gives the lambda that it spells, or the first refusal that applies, a syntax fault with its column. Its
+//!   caller says whether the text may have `cell("name")` and `row()`. It reads numbers by `is_number` and
 //!   `number_read`, and other words by `word_at`: a word is a function of a token.
 //! - other programs read whole texts by `read_lambda` and `read_number`.
-//!
-//! `read_lambda_within` reads `cell("name")` and `row()` too, where its caller says that the text may have them.
 //!
 //! `each_text_has_an_answer`, `one_answer` and `one_number` say that there is one answer and no other; `without_cells`
 //! and `same_without_the_word` say what cells and rows change.

@@ -97,6 +97,8 @@ fn judge(alloc: Global, text: &CutText, body: &BodySteps, want: Want) -> Result<
 
 /// Reads a lambda of the wanted kind (JLS 17, 15.27) from a text that was cut already, as a part of a
 /// job's text is. It refuses as `read_lambda` does, and columns count from the text's first byte.
+///
+/// For other programs: `streamrun` says whether the text may have cells, by `read_lambda_within`.
 pub fn read_lambda_of(alloc: Global, text: &CutText, want: Want) -> Result<Lambda, ReadFault>
     ensures ok { IfOk result (λ lambda. SpellsLambda text.now.bytes want lambda) }
     ensures refused { IfErr result (λ fault. IsRefused text.now.bytes want fault) }
@@ -138,7 +140,7 @@ pub fn read_lambda_within(
 /// body deeper than 64 or a stream of more than 64 operands, `UnknownName`, `WrongType`. If an allocation failed, the
 /// answer may be `NoMemory`; the empty text takes no memory.
 ///
-/// For other programs: `streamrun` reads tokens that were cut before, by `read_lambda_of`.
+/// For other programs: `streamrun` reads tokens that were cut before, by `read_lambda_within`.
 pub fn read_lambda(alloc: Global, text: &[u8], want: Want) -> Result<Lambda, ReadFault>
     ensures ok { IfOk result (λ lambda. SpellsLambda text.now want lambda) }
     ensures refused { IfErr result (λ fault. IsRefused text.now want fault) }

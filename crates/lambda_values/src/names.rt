@@ -15,7 +15,7 @@ use super::lambda::{Body, Lambda};
 use std::alloc::{AllocError, Global};
 use stream_tokens::Bytes;
 
-// A name after the others.
+/// Puts a copy of a name after the others.
 pub(crate) fn push_name(
     alloc: Global,
     name: &Bytes,

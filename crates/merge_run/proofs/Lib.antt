@@ -1,4 +1,5 @@
-mod BareColumns
+mod NamedColumns
+mod ReadLemmas
 mod MergedLemmas
 mod NamedAnswers
 mod ReportLemmas

@@ -1,3 +1,4 @@
 -- Condition: the files of this crate's definitions; the first line of each says what it is.
 pub mod Merged
+pub mod Run
 pub mod Small

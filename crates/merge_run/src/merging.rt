@@ -1,9 +1,10 @@
 //! The report of a whole table, from the reports of its parts.
-ghost use Rattle.std.specs.Prelude.{◌≡◌, ℕ, [], All, IfErr, IfOk, List, None, length, slice_index_or};
+ghost use Rattle.std.specs.Prelude.{◌≡◌, ◌<◌, ℕ, [], All, IfErr, IfOk, List, None, length, slice_index_or};
 ghost use Rattle.job_language.specs.Jobs.{jobs_of, names_of};
 ghost use Rattle.merge_run.specs.declared.part_report.PartReport.{PartReport as meant_report};
 ghost use Rattle.merge_run.specs.Merged.{ArePossible, AreReportsOf, IsMerged, IsMergeOf, IsMergeRefusal, IsRefusalOf};
 ghost use Rattle.merge_run.specs.Merged.{called};
+ghost use Rattle.merge_run.specs.Small.{ArePartsSmall};
 ghost use Rattle.report.specs.Named.{IsNamed, IsText};
 ghost use Rattle.report.specs.Reports.{report_in};
 ghost use Rattle.report_merge.specs.Mergeable.{first_unmergeable};
@@ -119,6 +120,7 @@ fn answers_of(
     requires names { names.now ≡ names_of (jobs_of jobs.now) }
     ensures read { IfOk result (λ found. AreReportsOf names.now parts.items (parts_of found.items)) }
     ensures named { IfOk result (λ found. All (λ part. All (IsNamed names.now) part.answers.items) found.items) }
+    ensures small { IfOk result (λ found. ArePartsSmall names.now (parts_of found.items)) }
     ensures possible { IfOk result (λ found. ArePossible (jobs_of jobs.now) (parts_of found.items)) }
     ensures refused { IfErr result (λ fault. IsRefusalOf (jobs_of jobs.now) parts.items fault) }
 {
@@ -178,7 +180,9 @@ fn part_fault(
     part: usize,
     fault: ReportFault,
 ) -> Result<ReportMergeFault, NoMemory>
-    ensures { IfOk result (λ fault. (reports : List meant_report) → IsRefusalOf (jobs_of jobs.now) reports fault) }
+    requires { (job : ℕ) → fault ≡ ReportFault.OtherJobs job → job < length (names_of (jobs_of jobs.now)) }
+    ensures { IfOk result (λ refusal. (reports : List meant_report) → part < length reports
+        → IsRefusalOf (jobs_of jobs.now) reports refusal) }
 {
     let cause = match fault {
         ReportFault::NoMemory => return Ok(ReportMergeFault::NoMemory),

@@ -1,5 +1,7 @@
 //! The answers of a part of a table, read from its report.
-ghost use Rattle.std.specs.Prelude.{◌≡◌, ◌<◌, All, length, IfOk, IfSome};
+ghost use Rattle.std.specs.Prelude.{◌≡◌, ◌<◌, ◌≤◌, ℕ, All, true, List, length, IfErr, IfOk, IfSome};
+ghost use Rattle.merge_run.specs.declared.part_answers.ReportFault.TheVariants as read_fault;
+ghost use Rattle.merge_run.specs.Small.{AllFit, AreSmall, IsFirst, IsSmall};
 ghost use Rattle.trace.specs.declared.item.Fault.{Fault as fault};
 ghost use Rattle.report.specs.Json.{report_json};
 ghost use Rattle.report.specs.Named.{IsNamed, IsText};
@@ -26,12 +28,16 @@ pub enum ReportFault {
 }
 
 impl From<NoMemory> for ReportFault {
+    ghost from_gives = { λ _ fault. fault ≡ read_fault.NoMemory };
+
     fn from(_: NoMemory) -> ReportFault {
         ReportFault::NoMemory
     }
 }
 
 impl<T: Drop> From<AllocFailed<T>> for ReportFault {
+    ghost from_gives = { λ _ fault. fault ≡ read_fault.NoMemory };
+
     fn from(_: AllocFailed<T>) -> ReportFault {
         ReportFault::NoMemory
     }
@@ -64,6 +70,8 @@ pub fn read_answers(
     ensures written { IfOk result (λ answers. bytes.now ≡ report_json names.now answers.items) }
     ensures paired { IfOk result (λ answers. length names.now ≡ length answers.items) }
     ensures named { IfOk result (λ answers. All (IsNamed names.now) answers.items) }
+    ensures small { IfOk result (λ answers. AreSmall names.now answers.items) }
+    ensures other { IfErr result (λ fault. (job : ℕ) → fault ≡ ReportFault.OtherJobs job → job < length names.now) }
 {
     let answers = answers_in(alloc, names, bytes)?;
     if answers.len() != names.len() {
@@ -78,7 +86,10 @@ pub fn read_answers(
 
 /// The answers that these bytes list, as far as they are those of these jobs.
 fn answers_in(alloc: Global, names: &[Bytes], bytes: &[u8]) -> Result<Vec<Answer>, ReportFault>
-    ensures { IfOk result (λ answers. All (IsNamed names.now) answers.items) }
+    ensures named { IfOk result (λ answers. All (IsNamed names.now) answers.items) }
+    ensures small { IfOk result (λ answers. AreSmall names.now answers.items) }
+    ensures few { IfOk result (λ answers. length answers.items ≤ length names.now) }
+    ensures other { IfErr result (λ fault. (job : ℕ) → fault ≡ ReportFault.OtherJobs job → job < length names.now) }
 {
     let objects: Vec<Members<'_>> = match serde_json::from_slice(alloc, bytes) {
         Ok(objects) => objects,
@@ -104,7 +115,8 @@ fn answers_in(alloc: Global, names: &[Bytes], bytes: &[u8]) -> Result<Vec<Answer
 
 /// The answer that these members say, if they say one.
 fn answer_of(names: &[Bytes], members: Members<'_>) -> Result<Option<Answer>, NoMemory>
-    ensures { IfOk result (λ found. IfSome found (IsNamed names.now)) }
+    ensures named { IfOk result (λ found. IfSome found (IsNamed names.now)) }
+    ensures small { IfOk result (λ found. IfSome found (IsSmall names.now)) }
 {
     if let Some(kind) = members.fault {
         return Ok(fault_of(kind, members.stage, members.item));
@@ -113,6 +125,9 @@ fn answer_of(names: &[Bytes], members: Members<'_>) -> Result<Option<Answer>, No
         return Ok(unusable_of(names, name));
     }
     if let Some(values) = members.array {
+        if !are_long(&values) {
+            return Ok(None);
+        }
         return Ok(Some(Answer::Array(Values::from_vec(values)?)));
     }
     Ok(Some(match (members.number, members.truth) {
@@ -122,9 +137,23 @@ fn answer_of(names: &[Bytes], members: Members<'_>) -> Result<Option<Answer>, No
     }))
 }
 
+/// Whether each number is one of 64 bits. Each is, but the prover learns it only of a number that is compared, and not
+/// of all numbers of a vector.
+fn are_long(values: &[i64]) -> bool
+    ensures { result ≡ true → AllFit values.now }
+{
+    for value in values {
+        if *value < i64::MIN || i64::MAX < *value {
+            return false;
+        }
+    }
+    true
+}
+
 /// The fault of this kind at this stage and item.
 fn fault_of(kind: &str, stage: Option<u32>, item: Option<u64>) -> Option<Answer>
-    ensures { IfSome result (λ answer. (f : fault) × (answer ≡ Answer.Fault f)) }
+    ensures fault { IfSome result (λ answer. (f : fault) × (answer ≡ Answer.Fault f)) }
+    ensures small { IfSome result (λ answer. (names : List (List ℕ)) → IsSmall names answer) }
 {
     Some(Answer::Fault(Fault {
         kind: kind_of(kind)?,
@@ -153,15 +182,17 @@ fn kind_of(name: &str) -> Option<FaultKind> {
 
 /// Unusable because of the job with this name.
 fn unusable_of(names: &[Bytes], name: &str) -> Option<Answer>
-    ensures { IfSome result (IsNamed names.now) }
+    ensures named { IfSome result (IsNamed names.now) }
+    ensures small { IfSome result (IsSmall names.now) }
 {
     let job = place_of(names, name)?;
     Some(Answer::Unusable(job))
 }
 
-/// The place of a name among these.
+/// The first place of a name among these.
 fn place_of(names: &[Bytes], name: &str) -> Option<usize>
-    ensures { IfSome result (λ place. place < length names.now) }
+    ensures within { IfSome result (λ place. place < length names.now) }
+    ensures first { IfSome result (IsFirst names.now) }
 {
     names
         .iter()

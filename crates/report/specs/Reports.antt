@@ -1,8 +1,9 @@
 -- Meaning: the report of the jobs that a job file spells over a column file, in the form that is asked for.
-use Rattle.std.specs.Prelude.{◌≡◌, ℕ, List, [], Option, Some, None, Result, Ok}
+use Rattle.std.specs.Prelude.{◌≡◌, ℕ, List, [], Option, Some, None, Result, Ok, if◌then◌else◌}
 use Rattle.columns.specs.declared.fault.ColumnFault.{ColumnFault}
-use Rattle.columns.specs.Cells.{cells_of}
+use Rattle.columns.specs.TableForms.{AbstractForm, cells_by}
 use Rattle.tables.specs.Table.{NamedColumn}
+use Rattle.job_names.specs.JobNames.{names_of_texts}
 use Rattle.job_language.specs.Files.{SpellsJobsWithin}
 use Rattle.job_language.specs.Jobs.{AbstractJob, names_of}
 use Rattle.job_meaning.specs.declared.answer.Answer.{Answer}
@@ -10,8 +11,11 @@ use Rattle.job_meaning.specs.FileAnswers.{meaning_of}
 use Rattle.report.specs.Json.{report_json}
 use Rattle.report.specs.Text.{report_text}
 use Rattle.run_settings.specs.Asked.{Asked}
+use Rattle.run_settings.specs.TableSettings.{byte_of}
+use Rattle.run_settings.specs.declared.table.TableSetting.{TableSetting}
 use Rattle.run_settings.specs.declared.settings.Form.{Form}
 use Rattle.run_settings.specs.declared.settings.Form.TheVariants as form
+use Rattle.stream_tokens.specs.JobTexts.{job_texts_within}
 
 -- what a run is given: the bytes of the column file, if there is one, the bytes of the job file, and what its settings
 -- ask for
@@ -20,10 +24,23 @@ pub record Input : Type 0 where
   pub jobs : List ℕ
   pub asked : Asked
 
--- the columns of a file; without a file there are none
-abbrev pub columns_of : Option (List ℕ) → Result (List NamedColumn) ColumnFault
-columns_of None = Ok []
-columns_of (Some bytes) = cells_of bytes
+-- helper: the form that a setting asks for, where the columns with these names are looked at, if not all are
+abbrev pub form_with : TableSetting → Option (List (List ℕ)) → AbstractForm
+form_with setting names = record { separator = byte_of setting.separator; names = names; blank = setting.blank }
+
+-- the form in which a column file is read: as is asked for, and, if only the columns that jobs name are looked at, by the
+-- names in this job file
+abbrev pub form_for : Asked → List ℕ → AbstractForm
+form_for asked jobs = form_with asked.table (if asked.table.only_named then Some (names_of_texts (job_texts_within asked.newest jobs)) else None)
+
+-- the columns of a file in a form; without a file there are none
+abbrev pub columns_by : AbstractForm → Option (List ℕ) → Result (List NamedColumn) ColumnFault
+columns_by form None = Ok []
+columns_by form (Some bytes) = cells_by form bytes
+
+-- the columns that an input gives
+abbrev pub columns_given : Input → Result (List NamedColumn) ColumnFault
+columns_given input = columns_by (form_for input.asked input.jobs) input.columns
 
 -- the report of answers in each form, given the names of their jobs
 abbrev pub report_in : Form → List (List ℕ) → List Answer → List ℕ
@@ -34,7 +51,7 @@ report_in form.Json names answers = report_json names answers
 -- source in encounter order; a job that meets a fault has the first one as its answer
 pub record IsReport (input : Input) (report : List ℕ) : Type 0 where
   pub columns : List NamedColumn
-  pub given : columns_of input.columns ≡ Ok columns
+  pub given : columns_given input ≡ Ok columns
   pub jobs : List AbstractJob
   pub spelled : SpellsJobsWithin input.asked.newest input.jobs columns jobs
   pub written : report ≡ report_in input.asked.form (names_of jobs) (meaning_of jobs)

@@ -5,8 +5,9 @@ use Rattle.std.specs.List.{find}
 use Rattle.std.specs.Str.{bytes_eq}
 use Rattle.std.proofs.lemmas.List.{map-append}
 use Rattle.columns.specs.declared.fault.ColumnFault.{ColumnFault}
-use Rattle.columns.specs.Refusals.{header_fault, rows_fault}
-use Rattle.columns.specs.Table.{columns_under, first_number, table_of, unless}
+use Rattle.columns.specs.Refusals.{header_fault}
+use Rattle.columns.specs.Table.{columns_under, first_number, unless}
+use Rattle.columns.specs.TableForms.{AbstractForm, filled, filled_rows, is_wanted, kept, rows_fault_in, table_by}
 use Rattle.tables.specs.Table.{NamedColumn, cells_named}
 use Rattle.std.specs.Option.{option_or}
 use Rattle.report_merge.specs.Cuts.{AreBare, Row}
@@ -20,18 +21,18 @@ length-map : {A B : Type 0} (f : A → B) (xs : List A) → length (map f xs) �
 length-map f [] = refl
 length-map f (x ∷ xs) = ap suc (length-map f xs)
 
-pub cells_count : (header : Row) (rows : List Row) (w : List ℕ) → length (cells_at header rows w) ≡ length rows
-cells_count [] rows w = length-map (λ (row : Row). pos 0) rows
-cells_count (name ∷ names) rows w = by_name (bytes_eq name w) (cells_count names (map (drop 1) rows) w ∙ length-map (drop 1) rows)
+count_at : (header : Row) (rows : List Row) (w : List ℕ) → length (cells_at header rows w) ≡ length rows
+count_at [] rows w = length-map (λ (row : Row). pos 0) rows
+count_at (name ∷ names) rows w = by_name (bytes_eq name w) (count_at names (map (drop 1) rows) w ∙ length-map (drop 1) rows)
   where
     by_name : (t : Bool) → length (cells_at names (map (drop 1) rows) w) ≡ length rows → length (if t then map first_number rows else cells_at names (map (drop 1) rows) w) ≡ length rows
     by_name true others = length-map first_number rows
     by_name false others = others
 
-pub cells_joined : (header : Row) (xs ys : List Row) (w : List ℕ) → cells_at header (xs ++ ys) w ≡ cells_at header xs w ++ cells_at header ys w
-cells_joined [] xs ys w = map-append (λ (row : Row). pos 0) xs ys
-cells_joined (name ∷ names) xs ys w =
-    by_name (bytes_eq name w) (ap (λ (rows : List Row). cells_at names rows w) (map-append (drop 1) xs ys) ∙ cells_joined names (map (drop 1) xs) (map (drop 1) ys) w)
+joined_at : (header : Row) (xs ys : List Row) (w : List ℕ) → cells_at header (xs ++ ys) w ≡ cells_at header xs w ++ cells_at header ys w
+joined_at [] xs ys w = map-append (λ (row : Row). pos 0) xs ys
+joined_at (name ∷ names) xs ys w =
+    by_name (bytes_eq name w) (ap (λ (rows : List Row). cells_at names rows w) (map-append (drop 1) xs ys) ∙ joined_at names (map (drop 1) xs) (map (drop 1) ys) w)
   where
     by_name : (t : Bool) → cells_at names (map (drop 1) (xs ++ ys)) w ≡ cells_at names (map (drop 1) xs) w ++ cells_at names (map (drop 1) ys) w
         → (if t then map first_number (xs ++ ys) else cells_at names (map (drop 1) (xs ++ ys)) w)
@@ -72,10 +73,32 @@ bare_cells (c ∷ columns) bare w vs h = by_name (bytes_eq c.name w) (bare_cells
     by_name true others e = let same : c.cells ≡ vs = cc in sym same ∙ bare.0
     by_name false others e = others e
 
--- a table has the columns under its header
-pub table_columns : (header : Row) (rows : List Row) (columns : List NamedColumn) → table_of (header ∷ rows) ≡ Ok columns → columns ≡ columns_under header rows
-table_columns header rows columns h = good (option_or (header_fault header) (rows_fault (length header) 1 rows)) h
-  where
-    good : (o : Option ColumnFault) → unless o (columns_under header rows) ≡ Ok columns → columns ≡ columns_under header rows
-    good None e = let same : columns_under header rows ≡ columns = cc in sym same
-    good (Some f) e = absurd cc
+-- ---- a table that is read in a form
+
+module _ (form : AbstractForm) (header : Row) where
+  -- the cells of a row in the columns that are looked at
+  abbrev pub kept_cells : Row → Row
+  kept_cells cells = kept (map (is_wanted form.names) header) cells
+
+  -- those of each row, blank ones written out
+  abbrev pub kept_rows : List Row → List Row
+  kept_rows rows = map kept_cells (filled_rows form.blank rows)
+
+  pub cells_count : (rows : List Row) (w : List ℕ) → length (cells_at (kept_cells header) (kept_rows rows) w) ≡ length rows
+  cells_count rows w =
+      count_at (kept_cells header) (kept_rows rows) w ∙ length-map kept_cells (filled_rows form.blank rows) ∙ length-map (map (filled form.blank)) rows
+
+  pub cells_joined : (xs ys : List Row) (w : List ℕ)
+      → cells_at (kept_cells header) (kept_rows (xs ++ ys)) w ≡ cells_at (kept_cells header) (kept_rows xs) w ++ cells_at (kept_cells header) (kept_rows ys) w
+  cells_joined xs ys w =
+      ap (λ (rows : List Row). cells_at (kept_cells header) rows w)
+      (ap (map kept_cells) (map-append (map (filled form.blank)) xs ys) ∙ map-append kept_cells (filled_rows form.blank xs) (filled_rows form.blank ys))
+      ∙ joined_at (kept_cells header) (kept_rows xs) (kept_rows ys) w
+
+  -- a table has the columns under its header
+  pub table_columns : (rows : List Row) (columns : List NamedColumn) → table_by form (header ∷ rows) ≡ Ok columns → columns ≡ columns_under (kept_cells header) (kept_rows rows)
+  table_columns rows columns h = good (option_or (header_fault (kept_cells header)) (rows_fault_in (map (is_wanted form.names) header) 1 (filled_rows form.blank rows))) h
+    where
+      good : (o : Option ColumnFault) → unless o (columns_under (kept_cells header) (kept_rows rows)) ≡ Ok columns → columns ≡ columns_under (kept_cells header) (kept_rows rows)
+      good None e = let same : columns_under (kept_cells header) (kept_rows rows) ≡ columns = cc in sym same
+      good (Some f) e = absurd cc

@@ -54,7 +54,7 @@ unequal a b x h = by_test (a == b) refl
 
 -- ---- the jobs that are named
 
--- what was found, so many places later
+-- what was found, with its place counted from n places before
 abbrev pub found_after : ℕ → Option (ℕ × Answer) → Option (ℕ × Answer)
 found_after n None = None
 found_after n (Some found) = Some (n + found.0, found.1)

@@ -1,12 +1,13 @@
 -- The first part that is refused gives the refusal of the table.
 use Rattle.std.proofs.Common.{◌≡◌, ℕ, suc, ◌+◌, Bool, true, false, List, [], ◌∷◌, ◌++◌, length, append-nil, Option, Some, None, refl, sym, ap, ◌∙◌, arith}
-use Rattle.std.specs.Prelude.{◌==◌, is_some, if◌then◌else◌}
+use Rattle.std.specs.Prelude.{ℤ, ◌==◌, ◌||◌, not, is_some, map, if◌then◌else◌}
 use Rattle.std.specs.Option.{option_or}
 use Rattle.columns.specs.declared.fault.ColumnFault.{ColumnFault}
 use Rattle.columns.specs.declared.fault.ColumnFault.TheVariants.{SameName, BadNumber, RowLength, TooManyColumns}
 use Rattle.columns.specs.Number.{number_of}
-use Rattle.columns.specs.Refusals.{cell_fault, header_fault, row_fault, rows_fault}
+use Rattle.columns.specs.Refusals.{header_fault}
 use Rattle.columns.specs.Table.{columns_under, unless}
+use Rattle.columns.specs.TableForms.{AbstractForm, filled, filled_rows, is_wanted, kept, kept_fault, row_fault_in, rows_fault_in}
 use Rattle.tables.specs.Table.{NamedColumn}
 use Rattle.report_merge.specs.Cuts.{Row, all_rows}
 use Rattle.report_merge.specs.Refusals.{first_refusal, moved_refusal, refusal_in, refusal_of}
@@ -19,50 +20,53 @@ or_none : (a : Option ColumnFault) → option_or a None ≡ a
 or_none (Some a) = refl
 or_none None = refl
 
--- a table is refused for its header, or else for its rows
-refused_by : (header : Row) (rows : List Row) → refusal_of (header ∷ rows) ≡ option_or (header_fault header) (rows_fault (length header) 1 rows)
-refused_by header rows = in_table (option_or (header_fault header) (rows_fault (length header) 1 rows)) (columns_under header rows)
-  where
-    in_table : (o : Option ColumnFault) (columns : List NamedColumn) → refusal_in (unless o columns) ≡ o
-    in_table None columns = refl
-    in_table (Some fault) columns = refl
+in_table : (o : Option ColumnFault) (columns : List NamedColumn) → refusal_in (unless o columns) ≡ o
+in_table None columns = refl
+in_table (Some fault) columns = refl
 
 -- ---- rows that come later
 
-cells_later : (k r c : ℕ) (cells : List (List ℕ)) → cell_fault (k + r) c cells ≡ moved_refusal k (cell_fault r c cells)
-cells_later k r c [] = refl
-cells_later k r c (cell ∷ cells) = by_number (is_some (number_of cell)) (cells_later k r (c + 1) cells)
+cells_later : (k r c : ℕ) (marks : List Bool) (cells : List (List ℕ)) → kept_fault marks (k + r) c cells ≡ moved_refusal k (kept_fault marks r c cells)
+cells_later k r c [] cells = refl
+cells_later k r c (m ∷ marks) [] = refl
+cells_later k r c (m ∷ marks) (cell ∷ cells) = by_number (not m || is_some (number_of cell)) (cells_later k r (c + 1) marks cells)
   where
-    by_number : (t : Bool) → cell_fault (k + r) (c + 1) cells ≡ moved_refusal k (cell_fault r (c + 1) cells)
-        → (if t then cell_fault (k + r) (c + 1) cells else Some (BadNumber (k + r) c)) ≡ moved_refusal k (if t then cell_fault r (c + 1) cells else Some (BadNumber r c))
+    by_number : (t : Bool) → kept_fault marks (k + r) (c + 1) cells ≡ moved_refusal k (kept_fault marks r (c + 1) cells)
+        → (if t then kept_fault marks (k + r) (c + 1) cells else Some (BadNumber (k + r) c)) ≡ moved_refusal k (if t then kept_fault marks r (c + 1) cells else Some (BadNumber r c))
     by_number true others = others
     by_number false others = refl
 
-row_later : (k width r : ℕ) (row : Row) → row_fault width (k + r) row ≡ moved_refusal k (row_fault width r row)
-row_later k width r row = by_length (length row == width)
+row_later : (k r : ℕ) (marks : List Bool) (row : Row) → row_fault_in marks (k + r) row ≡ moved_refusal k (row_fault_in marks r row)
+row_later k r marks row = by_length (length row == length marks)
   where
-    by_length : (t : Bool) → (if t then cell_fault (k + r) 1 row else Some (RowLength (k + r))) ≡ moved_refusal k (if t then cell_fault r 1 row else Some (RowLength r))
-    by_length true = cells_later k r 1 row
+    by_length : (t : Bool) → (if t then kept_fault marks (k + r) 1 row else Some (RowLength (k + r))) ≡ moved_refusal k (if t then kept_fault marks r 1 row else Some (RowLength r))
+    by_length true = cells_later k r 1 marks row
     by_length false = refl
 
 moved_or : (k : ℕ) (a b : Option ColumnFault) → option_or (moved_refusal k a) (moved_refusal k b) ≡ moved_refusal k (option_or a b)
 moved_or k None b = refl
 moved_or k (Some f) b = refl
 
-rows_later : (k width r : ℕ) (rows : List Row) → rows_fault width (k + r) rows ≡ moved_refusal k (rows_fault width r rows)
-rows_later k width r [] = refl
-rows_later k width r (row ∷ rows) =
-    let e : k + r + 1 ≡ k + (r + 1) = omega arith in
-    (λ i. option_or (row_later k width r row i) (rows_fault width (e i) rows))
-    ∙ ap (option_or (moved_refusal k (row_fault width r row))) (rows_later k width (r + 1) rows)
-    ∙ moved_or k (row_fault width r row) (rows_fault width (r + 1) rows)
+-- the fault of some rows of a table that is read in a form, from row r on
+abbrev fault_from : List Bool → Option ℤ → ℕ → List Row → Option ColumnFault
+fault_from marks blank r rows = rows_fault_in marks r (filled_rows blank rows)
 
-rows_joined : (width r : ℕ) (xs ys : List Row) → rows_fault width r (xs ++ ys) ≡ option_or (rows_fault width r xs) (rows_fault width (r + length xs) ys)
-rows_joined width r [] ys = let e : r ≡ r + 0 = omega arith in ap (λ (n : ℕ). rows_fault width n ys) e
-rows_joined width r (x ∷ xs) ys =
+rows_later : (k r : ℕ) (marks : List Bool) (blank : Option ℤ) (rows : List Row) → fault_from marks blank (k + r) rows ≡ moved_refusal k (fault_from marks blank r rows)
+rows_later k r marks blank [] = refl
+rows_later k r marks blank (row ∷ rows) =
+    let e : k + r + 1 ≡ k + (r + 1) = omega arith in
+    let cells = map (filled blank) row in
+    (λ i. option_or (row_later k r marks cells i) (fault_from marks blank (e i) rows))
+    ∙ ap (option_or (moved_refusal k (row_fault_in marks r cells))) (rows_later k (r + 1) marks blank rows)
+    ∙ moved_or k (row_fault_in marks r cells) (fault_from marks blank (r + 1) rows)
+
+rows_joined : (r : ℕ) (marks : List Bool) (blank : Option ℤ) (xs ys : List Row) → fault_from marks blank r (xs ++ ys) ≡ option_or (fault_from marks blank r xs) (fault_from marks blank (r + length xs) ys)
+rows_joined r marks blank [] ys = let e : r ≡ r + 0 = omega arith in ap (λ (n : ℕ). fault_from marks blank n ys) e
+rows_joined r marks blank (x ∷ xs) ys =
     let e : r + 1 + length xs ≡ r + suc (length xs) = omega arith in
-    ap (option_or (row_fault width r x)) (rows_joined width (r + 1) xs ys ∙ ap (λ (n : ℕ). option_or (rows_fault width (r + 1) xs) (rows_fault width n ys)) e)
-    ∙ sym (or_grouped (row_fault width r x) (rows_fault width (r + 1) xs) (rows_fault width (r + length (x ∷ xs)) ys))
+    let cells = map (filled blank) x in
+    ap (option_or (row_fault_in marks r cells)) (rows_joined (r + 1) marks blank xs ys ∙ ap (λ (n : ℕ). option_or (fault_from marks blank (r + 1) xs) (fault_from marks blank n ys)) e)
+    ∙ sym (or_grouped (row_fault_in marks r cells) (fault_from marks blank (r + 1) xs) (fault_from marks blank (r + length (x ∷ xs)) ys))
 
 -- ---- parts
 
@@ -72,35 +76,47 @@ header_stays k header true u = refl
 header_stays k header false true = refl
 header_stays k header false false = refl
 
+header_same : (k : ℕ) (header : Row) → moved_refusal k (header_fault header) ≡ header_fault header
+header_same k header = header_stays k header _ _
+
 or_twice : (h a b : Option ColumnFault) → option_or (option_or h a) (option_or h b) ≡ option_or h (option_or a b)
 or_twice None a b = refl
 or_twice (Some f) a b = refl
 
-module _ (header : Row) (same : (k : ℕ) → moved_refusal k (header_fault header) ≡ header_fault header) where
-  abbrev width : ℕ
-  width = length header
+module _ (form : AbstractForm) (header : Row) where
+  abbrev marks : List Bool
+  marks = map (is_wanted form.names) header
 
-  part_refused : (before : ℕ) (rows : List Row) → option_or (header_fault header) (rows_fault width (before + 1) rows) ≡ moved_refusal before (refusal_of (header ∷ rows))
+  abbrev names : Row
+  names = kept marks header
+
+  -- the fault of the header, or else of some rows from row r on
+  abbrev fault_over : ℕ → List Row → Option ColumnFault
+  fault_over r rows = option_or (header_fault names) (fault_from marks form.blank r rows)
+
+  -- a table is refused for its header, or else for its rows
+  refused_by : (rows : List Row) → refusal_of form (header ∷ rows) ≡ fault_over 1 rows
+  refused_by rows = in_table (fault_over 1 rows) (columns_under names (map (kept marks) (filled_rows form.blank rows)))
+
+  part_refused : (before : ℕ) (rows : List Row) → fault_over (before + 1) rows ≡ moved_refusal before (refusal_of form (header ∷ rows))
   part_refused before rows =
-      (λ i. option_or (sym (same before) i) (rows_later before width 1 rows i))
-      ∙ moved_or before (header_fault header) (rows_fault width 1 rows)
-      ∙ ap (moved_refusal before) (sym (refused_by header rows))
+      (λ i. option_or (sym (header_same before names) i) (rows_later before 1 marks form.blank rows i))
+      ∙ moved_or before (header_fault names) (fault_from marks form.blank 1 rows)
+      ∙ ap (moved_refusal before) (sym (refused_by rows))
 
   -- `before` rows come before these parts
-  parts_refused : (before : ℕ) (rows : List Row) (tables : List (List Row))
-      → option_or (header_fault header) (rows_fault width (before + 1) (all_rows (rows ∷ tables))) ≡ first_refusal before header (rows ∷ tables)
+  parts_refused : (before : ℕ) (rows : List Row) (tables : List (List Row)) → fault_over (before + 1) (all_rows (rows ∷ tables)) ≡ first_refusal form before header (rows ∷ tables)
   parts_refused before rows [] =
-      ap (λ (all : List Row). option_or (header_fault header) (rows_fault width (before + 1) all)) (append-nil rows)
+      ap (fault_over (before + 1)) (append-nil rows)
       ∙ part_refused before rows
-      ∙ sym (or_none (moved_refusal before (refusal_of (header ∷ rows))))
+      ∙ sym (or_none (moved_refusal before (refusal_of form (header ∷ rows))))
   parts_refused before rows (next ∷ tables) =
       let more = all_rows (next ∷ tables) in
       let e : before + 1 + length rows ≡ before + length rows + 1 = omega arith in
-      ap (option_or (header_fault header)) (rows_joined width (before + 1) rows more)
-      ∙ sym (or_twice (header_fault header) (rows_fault width (before + 1) rows) (rows_fault width (before + 1 + length rows) more))
-      ∙ (λ i. option_or (part_refused before rows i) (option_or (header_fault header) (rows_fault width (e i) more)))
-      ∙ ap (option_or (moved_refusal before (refusal_of (header ∷ rows)))) (parts_refused (before + length rows) next tables)
+      ap (option_or (header_fault names)) (rows_joined (before + 1) marks form.blank rows more)
+      ∙ sym (or_twice (header_fault names) (fault_from marks form.blank (before + 1) rows) (fault_from marks form.blank (before + 1 + length rows) more))
+      ∙ (λ i. option_or (part_refused before rows i) (fault_over (e i) more))
+      ∙ ap (option_or (moved_refusal before (refusal_of form (header ∷ rows)))) (parts_refused (before + length rows) next tables)
 
-pub refused_parts : (header : Row) (rows : List Row) (tables : List (List Row)) → refusal_of (header ∷ all_rows (rows ∷ tables)) ≡ first_refusal 0 header (rows ∷ tables)
-refused_parts header rows tables =
-    refused_by header (all_rows (rows ∷ tables)) ∙ parts_refused header (λ k. header_stays k header _ _) 0 rows tables
+  pub refused_parts : (rows : List Row) (tables : List (List Row)) → refusal_of form (header ∷ all_rows (rows ∷ tables)) ≡ first_refusal form 0 header (rows ∷ tables)
+  refused_parts rows tables = refused_by (all_rows (rows ∷ tables)) ∙ parts_refused 0 rows tables

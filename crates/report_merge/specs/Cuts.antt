@@ -1,6 +1,6 @@
 -- Condition: tables that are cut into parts, and what the jobs of a file answer over each.
 use Rattle.std.specs.Prelude.{◌≡◌, ℕ, if◌then◌else◌, List, [], ◌∷◌, ◌++◌, length, None, Ok}
-use Rattle.columns.specs.Table.{table_of}
+use Rattle.columns.specs.TableForms.{AbstractForm, table_by}
 use Rattle.tables.specs.Table.{NamedColumn}
 use Rattle.job_language.specs.Files.{SpellsJobsWithin}
 use Rattle.job_language.specs.Jobs.{AbstractJob}
@@ -12,11 +12,11 @@ use Rattle.report_merge.specs.Merging.{Part}
 abbrev pub Row : Type 0
 Row = List (List ℕ)
 
--- the bytes spell these jobs over the table with this header and these rows, where the newest version of the language is
--- this
-pub record IsOver (newest : ℕ) (bytes : List ℕ) (header : Row) (rows : List Row) (jobs : List AbstractJob) : Type 0 where
+-- the bytes spell these jobs over the table with this header and these rows, which is read in this form, where the newest
+-- version of the language is this
+pub record IsOver (form : AbstractForm) (newest : ℕ) (bytes : List ℕ) (header : Row) (rows : List Row) (jobs : List AbstractJob) : Type 0 where
   pub columns : List NamedColumn
-  pub table : table_of (header ∷ rows) ≡ Ok columns
+  pub table : table_by form (header ∷ rows) ≡ Ok columns
   pub spelled : SpellsJobsWithin newest bytes columns jobs
 
 -- helper: a job without `onFault`, if it is over a column, as the job with columns without cells says
@@ -31,18 +31,18 @@ asked (h ∷ hs) [] = []
 asked (h ∷ hs) (job ∷ jobs) = asked_job h job ∷ asked hs jobs
 
 -- these are the rows of the part, and its answers are what the jobs mean over them
-pub record IsAnswered (newest : ℕ) (bytes : List ℕ) (header : Row) (unfilled : List AbstractJob) (rows : List Row) (p : Part) : Type 0 where
+pub record IsAnswered (form : AbstractForm) (newest : ℕ) (bytes : List ℕ) (header : Row) (unfilled : List AbstractJob) (rows : List Row) (p : Part) : Type 0 where
   pub count : p.rows ≡ length rows
   pub jobs : List AbstractJob
-  pub over : IsOver newest bytes header rows jobs
+  pub over : IsOver form newest bytes header rows jobs
   pub answered : p.answers ≡ meaning_of (asked unfilled jobs)
 
 -- each part in turn; there is a part for each list of rows
-abbrev pub AreAnswered : ℕ → List ℕ → Row → List AbstractJob → List (List Row) → List Part → Type 0
-AreAnswered newest bytes header unfilled [] [] = Unit {0}
-AreAnswered newest bytes header unfilled [] (p ∷ ps) = ⊥
-AreAnswered newest bytes header unfilled (rows ∷ tables) [] = ⊥
-AreAnswered newest bytes header unfilled (rows ∷ tables) (p ∷ ps) = IsAnswered newest bytes header unfilled rows p × AreAnswered newest bytes header unfilled tables ps
+abbrev pub AreAnswered : AbstractForm → ℕ → List ℕ → Row → List AbstractJob → List (List Row) → List Part → Type 0
+AreAnswered form newest bytes header unfilled [] [] = Unit {0}
+AreAnswered form newest bytes header unfilled [] (p ∷ ps) = ⊥
+AreAnswered form newest bytes header unfilled (rows ∷ tables) [] = ⊥
+AreAnswered form newest bytes header unfilled (rows ∷ tables) (p ∷ ps) = IsAnswered form newest bytes header unfilled rows p × AreAnswered form newest bytes header unfilled tables ps
 
 -- the rows of the whole: those of its parts, one part after the other
 abbrev pub all_rows : List (List Row) → List Row
@@ -54,13 +54,13 @@ abbrev pub AreBare : List NamedColumn → Type 0
 AreBare [] = Unit {0}
 AreBare (c ∷ cs) = (c.cells ≡ []) × AreBare cs
 
--- a table in parts with their answers: the bytes spell the first jobs with columns without cells, and the last ones over
--- the whole table
-pub record IsCut (newest : ℕ) (bytes : List ℕ) (unfilled : List AbstractJob) (parts : List Part) (whole : List AbstractJob) : Type 0 where
+-- a table in parts with their answers, all read in this form: the bytes spell the first jobs with columns without cells,
+-- and the last ones over the whole table
+pub record IsCut (form : AbstractForm) (newest : ℕ) (bytes : List ℕ) (unfilled : List AbstractJob) (parts : List Part) (whole : List AbstractJob) : Type 0 where
   pub header : Row
   pub tables : List (List Row)
   pub columns : List NamedColumn
   pub bare : AreBare columns
   pub named : SpellsJobsWithin newest bytes columns unfilled
-  pub answered : AreAnswered newest bytes header unfilled tables parts
-  pub over : IsOver newest bytes header (all_rows tables) whole
+  pub answered : AreAnswered form newest bytes header unfilled tables parts
+  pub over : IsOver form newest bytes header (all_rows tables) whole

@@ -1,9 +1,9 @@
--- Design: why a table is refused that is cut into parts, each with the header.
+-- Design: why a table is refused that is cut into parts, each with the header, where all are read in one form.
 use Rattle.std.specs.Prelude.{ℕ, ◌+◌, List, [], ◌∷◌, length, Option, Some, None, Result, Ok, Err}
 use Rattle.std.specs.Option.{option_or}
 use Rattle.columns.specs.declared.fault.ColumnFault.{ColumnFault}
 use Rattle.columns.specs.declared.fault.ColumnFault.TheVariants.{NoHeader, SameName, BadNumber, RowLength, TooManyColumns, Read, NoMemory}
-use Rattle.columns.specs.Table.{table_of}
+use Rattle.columns.specs.TableForms.{AbstractForm, table_by}
 use Rattle.tables.specs.Table.{NamedColumn}
 use Rattle.report_merge.specs.Cuts.{Row}
 
@@ -26,11 +26,11 @@ abbrev pub refusal_in : Result (List NamedColumn) ColumnFault → Option ColumnF
 refusal_in (Ok columns) = None
 refusal_in (Err fault) = Some fault
 
-abbrev pub refusal_of : List Row → Option ColumnFault
-refusal_of records = refusal_in (table_of records)
+abbrev pub refusal_of : AbstractForm → List Row → Option ColumnFault
+refusal_of form records = refusal_in (table_by form records)
 
 -- the refusal of the first part that is refused, its row counted over the whole; these rows come before the parts,
 -- and each part has the header
-abbrev pub first_refusal : ℕ → Row → List (List Row) → Option ColumnFault
-first_refusal before header [] = None
-first_refusal before header (rows ∷ tables) = option_or (moved_refusal before (refusal_of (header ∷ rows))) (first_refusal (before + length rows) header tables)
+abbrev pub first_refusal : AbstractForm → ℕ → Row → List (List Row) → Option ColumnFault
+first_refusal form before header [] = None
+first_refusal form before header (rows ∷ tables) = option_or (moved_refusal before (refusal_of form (header ∷ rows))) (first_refusal form (before + length rows) header tables)

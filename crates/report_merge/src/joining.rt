@@ -7,8 +7,8 @@ ghost use Rattle.job_meaning.specs.declared.answer.Answer.TheVariants as answer;
 ghost use Rattle.job_meaning.specs.Walks.{fallback_of, instead_of_fault, number_as};
 ghost use Rattle.report_merge.specs.Merging.{answer_beside, arrays_joined, asks_first, beside, either_or_both};
 ghost use Rattle.report_merge.specs.Merging.{founds_joined, is_decided, is_final, is_within, joined, moved};
-ghost use Rattle.report_merge.specs.Merging.{kind_number, numbers_joined, optionals_joined, right_fault, same_answer};
-ghost use Rattle.report_merge.specs.Merging.{same_fault, same_optional, same_place, with_fallback};
+ghost use Rattle.report_merge.specs.Merging.{numbers_joined, optionals_joined, right_fault, same_answer};
+ghost use Rattle.report_merge.specs.Merging.{with_fallback};
 ghost use Rattle.std.specs.Cmp.Lexicographic.{pointwise};
 ghost use Rattle.std.specs.Ordering.{int_eq};
 
@@ -16,7 +16,6 @@ use crate::unmergeable::is_over_column;
 use find_ops::FindTerminal;
 use job_language::{Job, Terminal};
 use job_meaning::{Answer, Values};
-use lambda_values::FaultKind;
 use reduce_ops::Op;
 use std::alloc::Global;
 use trace::{Fault, NoMemory};
@@ -186,48 +185,6 @@ fn beside(
     }
 }
 
-/// The number of a kind of fault.
-fn kind_number(kind: FaultKind) -> u8
-    ensures { result ≡ kind_number kind }
-{
-    match kind {
-        FaultKind::DivideByZero => 1,
-        FaultKind::Overflow => 2,
-        FaultKind::OutOfArray => 3,
-        FaultKind::SourceTooLong => 4,
-    }
-}
-
-/// Whether two places are equal, or both are none.
-fn same_place(left: Option<u64>, right: Option<u64>) -> bool
-    ensures { result ≡ same_place left right }
-{
-    match (left, right) {
-        (None, None) => true,
-        (Some(left), Some(right)) => left == right,
-        _ => false,
-    }
-}
-
-/// Whether two faults are equal.
-fn same_fault(left: Fault, right: Fault) -> bool
-    ensures { result ≡ same_fault left right }
-{
-    kind_number(left.kind) == kind_number(right.kind)
-        && (left.stage == right.stage && same_place(left.origin, right.origin))
-}
-
-/// Whether two numbers that may be missing are equal, or both are missing.
-fn same_optional(left: Option<i64>, right: Option<i64>) -> bool
-    ensures { result ≡ same_optional left right }
-{
-    match (left, right) {
-        (None, None) => true,
-        (Some(left), Some(right)) => left == right,
-        _ => false,
-    }
-}
-
 /// Whether two arrays are equal. Those in several pieces are copied.
 fn same_values(alloc: Global, left: &Values, right: &Values) -> Result<bool, NoMemory>
     ensures { IfOk result (λ same. same ≡ pointwise int_eq left.now right.now) }
@@ -247,9 +204,9 @@ fn same_answer(alloc: Global, left: &Answer, right: &Answer) -> Result<bool, NoM
     match (left, right) {
         (Answer::Number(left), Answer::Number(right)) => Ok(left == right),
         (Answer::Truth(left), Answer::Truth(right)) => Ok(left == right),
-        (Answer::Optional(left), Answer::Optional(right)) => Ok(same_optional(*left, *right)),
+        (Answer::Optional(left), Answer::Optional(right)) => Ok(left == right),
         (Answer::Array(left), Answer::Array(right)) => same_values(alloc, left, right),
-        (Answer::Fault(left), Answer::Fault(right)) => Ok(same_fault(*left, *right)),
+        (Answer::Fault(left), Answer::Fault(right)) => Ok(left == right),
         (Answer::Unusable(left), Answer::Unusable(right)) => Ok(left == right),
         _ => Ok(false),
     }

@@ -1,6 +1,7 @@
 //! The answers over a table, of the answers over its parts.
 
 ghost use Rattle.std.specs.Prelude.{◌≡◌, ◌≢◌, ◌⊎◌, ◌≤◌, ◌<◌, ◌+◌, ◌^◌, ℕ, [], List, Some, None, IfOk, IfErr};
+ghost use Rattle.columns.specs.TableForms.{AbstractForm};
 ghost use Rattle.job_language.specs.Jobs.{AbstractJob, jobs_of, names_of};
 ghost use Rattle.job_meaning.specs.FileAnswers.{meaning_of};
 ghost use Rattle.report_merge.specs.Cuts.{IsCut};
@@ -163,15 +164,16 @@ pub fn merge(
         merged (jobs_of jobs.now) (parts_of parts.items) ≡ None) }
     ensures no_part { IfErr result (λ fault. fault ≡ MergeFault.NoPart → parts_of parts.items ≡ []) }
     ensures rows { IfErr result (λ fault. fault ≡ MergeFault.TooManyRows → 2 ^ 62 < rows_in (parts_of parts.items)) }
-    // If the answers of each part are what the jobs mean over its rows, the answers are what they mean over all rows.
-    ensures whole { IfOk result (λ answers. (newest : ℕ) (bytes : List ℕ) (whole : List AbstractJob)
-        → first_unmergeable (jobs_of jobs.now) ≡ None
-        → IsCut newest bytes (jobs_of jobs.now) (parts_of parts.items) whole
+    // If the answers of each part are what the jobs mean over its rows, the answers are what they mean over all rows,
+    // whichever form all are read in.
+    ensures whole { IfOk result (λ answers. (form : AbstractForm) (newest : ℕ) (bytes : List ℕ)
+        (whole : List AbstractJob) → first_unmergeable (jobs_of jobs.now) ≡ None
+        → IsCut form newest bytes (jobs_of jobs.now) (parts_of parts.items) whole
         → (answers.items ≡ meaning_of whole) × (names_of (jobs_of jobs.now) ≡ names_of whole)) }
     // With at least one part, and 2^62 rows at most, only an allocation that fails refuses the parts of a cut.
-    ensures never { IfErr result (λ fault. (newest : ℕ) (bytes : List ℕ) (whole : List AbstractJob)
-        → first_unmergeable (jobs_of jobs.now) ≡ None
-        → IsCut newest bytes (jobs_of jobs.now) (parts_of parts.items) whole
+    ensures never { IfErr result (λ fault. (form : AbstractForm) (newest : ℕ) (bytes : List ℕ)
+        (whole : List AbstractJob) → first_unmergeable (jobs_of jobs.now) ≡ None
+        → IsCut form newest bytes (jobs_of jobs.now) (parts_of parts.items) whole
         → fault ≢ MergeFault.NoMemory
         → (parts_of parts.items ≡ []) ⊎ (2 ^ 62 < rows_in (parts_of parts.items))) }
 {

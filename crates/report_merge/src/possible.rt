@@ -107,26 +107,25 @@ fn optional_fits(most: Option<u64>, answer: &Answer) -> bool
     }
 }
 
-/// How many values there are.
-fn count_of(alloc: Global, values: &Values) -> Result<usize, NoMemory>
+/// How many values there are; no memory holds more than a `usize` counts.
+fn count_of(values: &Values) -> Result<usize, NoMemory>
     ensures { IfOk result (λ count. count ≡ length values.now) }
 {
-    match values.as_slice() {
-        Some(slice) => Ok(slice.len()),
-        None => {
-            let values = values.to_vec(alloc)?;
-            Ok(values.len())
-        }
+    let mut count = 0usize;
+    let pieces = values.pieces();
+    for piece in pieces {
+        count = count.checked_add(piece.len()).ok_or(NoMemory)?;
     }
+    Ok(count)
 }
 
 /// Whether an array can be this answer.
-fn array_fits(alloc: Global, most: Option<u64>, answer: &Answer) -> Result<bool, NoMemory>
+fn array_fits(most: Option<u64>, answer: &Answer) -> Result<bool, NoMemory>
     ensures { IfOk result (λ fits. fits ≡ array_fits most answer.now) }
 {
     match answer {
         Answer::Array(values) => {
-            let count = count_of(alloc, values)?;
+            let count = count_of(values)?;
             Ok(may_come(count as u64, most))
         }
         _ => Ok(false),
@@ -155,12 +154,7 @@ fn found_fits(most: Option<u64>, find: &FindTerminal, answer: &Answer) -> bool
 }
 
 /// Whether a terminal can give this value if at most this many items come.
-fn value_fits(
-    alloc: Global,
-    terminal: &Terminal,
-    most: Option<u64>,
-    answer: &Answer,
-) -> Result<bool, NoMemory>
+fn value_fits(terminal: &Terminal, most: Option<u64>, answer: &Answer) -> Result<bool, NoMemory>
     ensures { IfOk result (λ fits. fits ≡ value_fits (terminal_of terminal.now) most answer.now) }
 {
     match terminal {
@@ -168,7 +162,7 @@ fn value_fits(
         Terminal::Count => Ok(count_fits(most, answer)),
         Terminal::Min | Terminal::Max | Terminal::Reduce(_) => Ok(optional_fits(most, answer)),
         Terminal::ReduceFrom { identity, .. } => Ok(number_fits(most, *identity, answer)),
-        Terminal::ToArray => array_fits(alloc, most, answer),
+        Terminal::ToArray => array_fits(most, answer),
         Terminal::Find(find) => Ok(found_fits(most, find, answer)),
     }
 }
@@ -184,11 +178,11 @@ fn is_fallback(fallback: &Option<Answer>, answer: &Answer) -> bool
 }
 
 /// Whether a job can have this value as its answer.
-fn value_can(alloc: Global, job: &Job, rows: u64, answer: &Answer) -> Result<bool, NoMemory>
+fn value_can(job: &Job, rows: u64, answer: &Answer) -> Result<bool, NoMemory>
     ensures { IfOk result (λ can. can ≡ value_can (job_of job.now) rows answer.now) }
 {
     let most = most_items(job, rows);
-    if value_fits(alloc, &job.terminal, most, answer)? {
+    if value_fits(&job.terminal, most, answer)? {
         return Ok(true);
     }
     if is_over_column(job) {
@@ -254,7 +248,7 @@ fn can_answer(
     if let Some(place) = first_unusable(above, answers, &names) {
         return Ok(is_unusable_by(place, answer));
     }
-    if value_can(alloc, job, rows, answer)? {
+    if value_can(job, rows, answer)? {
         return Ok(true);
     }
     Ok(fault_can(job, rows, answer))

@@ -4,6 +4,7 @@ use Rattle.run_settings.specs.declared.settings.Form.{Form}
 use Rattle.run_settings.specs.declared.settings.Language.{Language}
 use Rattle.run_settings.specs.declared.settings.Language.TheVariants as language
 use Rattle.run_settings.specs.declared.settings.Settings.{Settings}
+use Rattle.run_settings.specs.declared.table.TableSetting.{TableSetting}
 
 abbrev pub workers_of : Settings → ℕ
 workers_of s = s.workers
@@ -21,6 +22,10 @@ form_of s = s.form
 -- the newest version of job files that is read
 abbrev pub language_of : Settings → Language
 language_of s = s.language
+
+-- how the column file is read
+abbrev pub table_of : Settings → TableSetting
+table_of s = s.table
 
 abbrev pub newest_in : Language → ℕ
 newest_in language.Two = 2

@@ -1,7 +1,10 @@
 //! The settings of a run, and their limits.
 
 ghost use Rattle.run_settings.specs.Settings.{AreWithin};
+ghost use Rattle.run_settings.specs.TableSettings.{integers};
 ghost use Rattle.std.specs.Prelude.{◌≡◌, ◌≤◌, IfSome, IsSome, None};
+
+use super::table::TableSetting;
 
 /// The form of a report.
 #[derive(Clone, Copy, Debug, PartialEq, Eq)]
@@ -17,7 +20,7 @@ pub enum Form {
 pub enum Language {
     /// Files of versions 1 and 2.
     Two,
-    /// Files of version 3 too, which have `cell`.
+    /// Files of version 3 too, which have cells and rows, `sumExact`, `sorted` and `distinct`.
     Three,
 }
 
@@ -43,11 +46,13 @@ pub struct Settings {
     nodes: u64,
     form: Form,
     language: Language,
+    table: TableSetting,
     ghost within: { AreWithin workers threshold nodes },
 }
 
 impl Settings {
-    ghost use Rattle.run_settings.specs.SettingsParts.{form_of, language_of, nodes_of, threshold_of, workers_of};
+    ghost use Rattle.run_settings.specs.SettingsParts.{form_of, language_of, nodes_of, table_of};
+    ghost use Rattle.run_settings.specs.SettingsParts.{threshold_of, workers_of};
 
     /// These settings, or none if a number is outside its limits.
     pub fn of(workers: u64, threshold: u64, nodes: u64, form: Form) -> Option<Settings>
@@ -58,6 +63,7 @@ impl Settings {
         ensures nodes { IfSome result (λ settings. nodes_of settings ≡ nodes) }
         ensures form { IfSome result (λ settings. form_of settings ≡ form) }
         ensures language { IfSome result (λ settings. language_of settings ≡ Language.Two) }
+        ensures table { IfSome result (λ settings. table_of settings ≡ integers) }
     {
         let within = 1 <= workers
             && workers <= 64
@@ -71,6 +77,7 @@ impl Settings {
                 nodes,
                 form,
                 language: Language::Two,
+                table: TableSetting::of_integers(),
             })
         } else {
             None
@@ -84,6 +91,7 @@ impl Settings {
         ensures nodes { nodes_of result ≡ nodes_of self }
         ensures form { form_of result ≡ form_of self }
         ensures language { language_of result ≡ language }
+        ensures table { table_of result ≡ table_of self }
     {
         Settings {
             workers: self.workers,
@@ -91,7 +99,34 @@ impl Settings {
             nodes: self.nodes,
             form: self.form,
             language,
+            table: self.table,
         }
+    }
+
+    /// These settings, but that the column file is read like this.
+    pub fn over(self, table: TableSetting) -> Settings
+        ensures workers { workers_of result ≡ workers_of self }
+        ensures threshold { threshold_of result ≡ threshold_of self }
+        ensures nodes { nodes_of result ≡ nodes_of self }
+        ensures form { form_of result ≡ form_of self }
+        ensures language { language_of result ≡ language_of self }
+        ensures table { table_of result ≡ table }
+    {
+        Settings {
+            workers: self.workers,
+            threshold: self.threshold,
+            nodes: self.nodes,
+            form: self.form,
+            language: self.language,
+            table,
+        }
+    }
+
+    /// How the column file is read.
+    pub fn table(&self) -> TableSetting
+        ensures { result ≡ table_of self.now }
+    {
+        self.table
     }
 
     /// The newest version of job files that is read.

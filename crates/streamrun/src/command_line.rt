@@ -1,5 +1,6 @@
 //! The command line.
 
+use super::table_options::{table_of, with_table};
 use clap::{Arg, ArgAction, ArgMatches, Command, Error, value_parser};
 use run_settings::{Form, Language, Settings};
 use std::alloc::{AllocError, Global};
@@ -7,15 +8,17 @@ use std::alloc::{AllocError, Global};
 /// What the command line asks for.
 #[derive(Drop)]
 pub struct Arguments<'a> {
-    /// The path of the job file.
+    /// The name of the job file.
     pub jobs: &'a str,
-    /// The path of the column file, if there is one.
+    /// The name of the column file, if there is one.
     pub columns: Option<&'a str>,
-    /// The settings of the run; none only if a number is outside its limits.
+    /// The settings of the run; none only if a value is outside its limits.
     pub settings: Option<Settings>,
+    /// Whether a job without a value changes the exit status.
+    pub fails: bool,
 }
 
-/// Reads the words of a command line, the program's name first. A request for help is an `Err` too,
+/// Reads the words of a command line, the program's name first. A request for help or for the version is an `Err` too,
 /// with an `exit_code` of 0.
 pub fn read_arguments<'a>(alloc: Global, words: &'a [&'a str]) -> Result<Arguments<'a>, Error> {
     let matches = command_of(alloc)?.try_get_matches_from(words)?;
@@ -28,6 +31,7 @@ fn arguments_of<'a>(matches: &ArgMatches<'a>) -> Arguments<'a> {
         jobs: matches.get_str("JOBS").unwrap_or(""),
         columns: matches.get_str("columns"),
         settings: settings_of(matches),
+        fails: matches.get_flag("fail"),
     }
 }
 
@@ -35,36 +39,33 @@ fn arguments_of<'a>(matches: &ArgMatches<'a>) -> Arguments<'a> {
 const VERSION_AND_PURPOSE: &str =
     "streamrun 1.0.0: runs pipelines over 64-bit integers, with one answer per job";
 
+/// What `--version` says after the name of the program. A build without proofs says that it is not proved.
+const VERSION: &str = "1.0.0, proved";
+
 /// What the help says below the options.
 const EXAMPLE_AND_STATUSES: &str =
     r#"Workers, threshold and nodes never change the report. This one is a = 5050:
-  echo 'a = range(1, 101).sum()' | streamrun /dev/stdin
+  echo 'a = range(1, 101).sum()' | streamrun -
 Exit status:
   0  the report was written; faults of jobs are answers
   1  the job file or the column file is refused
   2  the command line is refused
   3  out of memory
-  4  a file can't be opened, read or written"#;
+  4  a file can't be opened, read or written
+  5  with --fail: a job has a fault or is unusable"#;
 
 /// The program with what its help says, without files and options.
 fn program<'a>(alloc: Global) -> Command<'a> {
     Command::new(alloc, "streamrun")
         .about(VERSION_AND_PURPOSE)
+        .version(VERSION)
         .after_help(EXAMPLE_AND_STATUSES)
 }
 
 fn jobs_file<'a>(alloc: Global) -> Arg<'a> {
     Arg::new(alloc, "JOBS")
-        .help("The file of jobs to run; /dev/stdin is a name like any other")
+        .help("The file of jobs to run; - is standard input, for one of both files")
         .required(true)
-        .action(ArgAction::Set)
-}
-
-fn columns_file<'a>(alloc: Global) -> Arg<'a> {
-    Arg::new(alloc, "columns")
-        .long("columns")
-        .value_name("FILE")
-        .help("A CSV file of integer columns, which jobs name")
         .action(ArgAction::Set)
 }
 
@@ -86,23 +87,30 @@ fn number<'a>(
         .action(ArgAction::Set)
 }
 
-fn json<'a>(alloc: Global) -> Arg<'a> {
-    Arg::new(alloc, "json")
-        .long("json")
-        .help("Write the report as JSON")
+/// An option without a value.
+pub fn flag<'a>(alloc: Global, name: &'a str, help: &'a str) -> Arg<'a> {
+    Arg::new(alloc, name)
+        .long(name)
+        .help(help)
         .action(ArgAction::SetTrue)
 }
 
 /// The command with its files, and with an option for each setting.
 fn command_of<'a>(alloc: Global) -> Result<Command<'a>, AllocError> {
-    let command = program(alloc)
-        .arg(jobs_file(alloc))?
-        .arg(columns_file(alloc))?;
-    with_settings(alloc, command)
+    let command = program(alloc).arg(jobs_file(alloc))?;
+    let command = with_table(alloc, command)?;
+    let command = with_numbers(alloc, command)?;
+    command
+        .arg(flag(alloc, "json", "Write the report as JSON"))?
+        .arg(flag(
+            alloc,
+            "fail",
+            "Status 5 if a job has a fault or is unusable",
+        ))
 }
 
-/// The command with an option for each setting.
-fn with_settings<'a>(alloc: Global, command: Command<'a>) -> Result<Command<'a>, AllocError> {
+/// The command with an option for each setting that is a number.
+fn with_numbers<'a>(alloc: Global, command: Command<'a>) -> Result<Command<'a>, AllocError> {
     let workers = number(
         alloc,
         "workers",
@@ -134,8 +142,7 @@ fn with_settings<'a>(alloc: Global, command: Command<'a>) -> Result<Command<'a>,
         "2",
         "Read job files up to this version",
     );
-    let command = command.arg(language.value_parser(value_parser!(u64).range(2..=3)))?;
-    command.arg(json(alloc))
+    command.arg(language.value_parser(value_parser!(u64).range(2..=3)))
 }
 
 /// The language that was matched.
@@ -159,5 +166,6 @@ fn settings_of(matches: &ArgMatches<'_>) -> Option<Settings> {
         matches.get_one::<u64>("nodes")?,
         form,
     )?;
-    Some(settings.reading(language_of(matches)?))
+    let settings = settings.reading(language_of(matches)?);
+    Some(settings.over(table_of(matches)?))
 }

@@ -4,21 +4,25 @@
 //! Stands on `engine`, whose `run` is the whole work, on `counted_io` for readers and writers that
 //! count their failures, and on `clap` for the command line. What it promises is the contract of
 //! `engine::run`, which this program calls on the two files and on standard output: `ended_run` says that the exit
-//! status is the one of this run. Begin with `engine/specs/Run.antt`; here there is only the command line, the
-//! opening of the files, the exit status, and the line that says on a terminal how far a long run is.
+//! status is the one of this run; with `--fail` it may be another one. Begin with `engine/specs/Run.antt`; here there
+//! is only the command line, the opening of the files, the exit status, and lines on standard error: how far a long
+//! run is on a terminal, and what to write instead of a command line that can't be meant so.
 //! Not promised: that a file can be read or written, or that memory is there; the line on standard
 //! error says which it was.
 #![tactic(auto)]
 
-ghost use Rattle.std.specs.Prelude.{◌≡◌, Result, ⊤};
+ghost use Rattle.std.specs.Prelude.{◌≡◌, ◌==◌, ◌&&◌, if◌then◌else◌, Result, ⊤};
 ghost use Rattle.engine.specs.Given.{IsAnswered, IsLeft};
 ghost use Rattle.engine.specs.Statuses.{status_after};
 ghost use Rattle.engine.specs.declared.fault.EngineFault.{EngineFault as meant_fault};
 ghost use Rattle.run_settings.specs.Asked.{asked_of};
 
+mod advice;
 mod command_line;
 mod progress;
+mod table_options;
 
+use advice::{advice_on, are_both_standard_input, doubt_about, path_of};
 use clap::error::ErrorKind as ArgumentErrorKind;
 use command_line::{Arguments, read_arguments};
 use counted_io::{Counted, CountedOut, CountedRead, CountedWrite};
@@ -39,6 +43,15 @@ const REFUSED: u8 = 2;
 /// The exit status if a file can't be opened.
 const NOT_OPENED: u8 = 4;
 
+/// The exit status of a run that wrote its report.
+const WRITTEN: u8 = 0;
+
+/// The exit status if the job file or the column file is refused.
+const FILE_REFUSED: u8 = 1;
+
+/// The exit status if jobs without a value are asked for, and one is in the report.
+const WITHOUT_VALUE: u8 = 5;
+
 fn main(rt: HostRuntime) -> ExitCode {
     ExitCode::from(match read_command_line(&rt) {
         Ok(Asked::Run(given)) => watched_run(&rt, &rt, given),
@@ -53,6 +66,10 @@ struct GivenFiles {
     columns: Option<Counted<File>>,
     jobs: Counted<File>,
     settings: Settings,
+    /// Whether a job without a value changes the exit status.
+    fails: bool,
+    /// What to say if one of the files is refused, by their names.
+    doubt: Option<&'static str>,
 }
 
 /// What a command line asks for.
@@ -84,20 +101,34 @@ fn read_words(rt: &HostRuntime, given: &[String]) -> Result<Asked, AllocError> {
         Err(error) if error.kind() == ArgumentErrorKind::OutOfMemory => Err(AllocError),
         Err(refused) => {
             let _ = refused.print(rt);
-            let status = if refused.exit_code() == 0 { 0 } else { REFUSED };
-            Ok(Asked::End(status))
+            if refused.exit_code() == 0 {
+                return Ok(Asked::End(0));
+            }
+            say(rt, advice_on(&words));
+            Ok(Asked::End(REFUSED))
         }
+    }
+}
+
+/// Says something on standard error, if there is something to say.
+fn say(rt: &HostRuntime, line: Option<&str>) {
+    if let Some(line) = line {
+        let _ = writeln!(rt.stderr(), "streamrun: {line}");
     }
 }
 
 /// Opens the files of a command line. Both are open before one is read, the columns first.
 fn opened_by(rt: &HostRuntime, arguments: &Arguments<'_>) -> Result<Asked, AllocError> {
     let Some(settings) = arguments.settings else {
-        let _ = writeln!(rt.stderr(), "streamrun: a setting is outside its limits");
+        say(rt, Some("a setting is outside its limits"));
         return Ok(Asked::End(REFUSED));
     };
+    if are_both_standard_input(arguments.columns, arguments.jobs) {
+        say(rt, Some("standard input can't be both files"));
+        return Ok(Asked::End(REFUSED));
+    }
     let columns = match arguments.columns {
-        Some(path) => match opened(rt, path, "columns")? {
+        Some(name) => match opened(rt, name, "columns")? {
             Some(file) => Some(counted(file)),
             None => return Ok(Asked::End(NOT_OPENED)),
         },
@@ -108,18 +139,21 @@ fn opened_by(rt: &HostRuntime, arguments: &Arguments<'_>) -> Result<Asked, Alloc
             columns,
             jobs: counted(jobs),
             settings,
+            fails: arguments.fails,
+            doubt: doubt_about(arguments.columns, arguments.jobs),
         })),
         None => Ok(Asked::End(NOT_OPENED)),
     }
 }
 
-/// The open file at this path, or none after a line that says which file can't be opened.
-fn opened(rt: &HostRuntime, path: &str, which: &str) -> Result<Option<File>, AllocError> {
-    match fs::open(rt, path) {
+/// The open file of this name, or none after a line that says which file can't be opened, and one that says why.
+fn opened(rt: &HostRuntime, name: &str, which: &str) -> Result<Option<File>, AllocError> {
+    match fs::open(rt, path_of(name)) {
         Ok(file) => Ok(Some(file)),
         Err(error) if error.kind() == ErrorKind::OutOfMemory => Err(AllocError),
-        Err(_) => {
+        Err(error) => {
             let _ = writeln!(rt.stderr(), "streamrun: cannot open {which}");
+            let _ = writeln!(rt.stderr(), "streamrun: {name}: {error}");
             Ok(None)
         }
     }
@@ -147,10 +181,12 @@ fn watched_run<H: Threads + Wait + Sync>(rt: &HostRuntime, threads: &H, given: G
             mut columns,
             mut jobs,
             settings,
+            fails,
+            doubt,
         } = given;
         let mut writer = CountedOut::new(rt.stdout());
         let columns = columns.as_mut();
-        ended_run(
+        let status = ended_run(
             rt,
             threads,
             columns,
@@ -158,8 +194,31 @@ fn watched_run<H: Threads + Wait + Sync>(rt: &HostRuntime, threads: &H, given: G
             &mut writer,
             &settings,
             progress,
-        )
+        );
+        say(rt, remark(status, progress.has_jobs(), doubt));
+        status_with(status, fails && progress.lacks_value())
     })
+}
+
+/// What to say beside the report or the refusal of a run that ended with this status.
+fn remark(status: u8, has_jobs: bool, doubt: Option<&'static str>) -> Option<&'static str> {
+    match status {
+        WRITTEN if !has_jobs => Some("the job file has no job"),
+        FILE_REFUSED => doubt,
+        _ => None,
+    }
+}
+
+/// The exit status of a run that ended with this status, if jobs without a value are asked for and one is in the
+/// report.
+fn status_with(status: u8, lacks_value: bool) -> u8
+    ensures { result ≡ if (status == 0) && lacks_value then 5 else status }
+{
+    if status == WRITTEN && lacks_value {
+        WITHOUT_VALUE
+    } else {
+        status
+    }
 }
 
 /// Runs the jobs, wipes the line, and answers the exit status; after a fault its line is on standard error.
@@ -177,7 +236,7 @@ fn ended_run<H: Threads + Wait + Sync, C: CountedRead, J: CountedRead, W: Counte
     ensures { (answer : Result ⊤ meant_fault) × (result ≡ status_after answer)
         × IsAnswered C.remaining columns.entry (J.remaining jobs.old) (asked_of settings.now)
         (W.contents writer.old) (W.contents writer.new) answer
-        × IsLeft (record { bytes = J.remaining jobs.old; failures = J.failures jobs.old })
+        × IsLeft (asked_of settings.now) (record { bytes = J.remaining jobs.old; failures = J.failures jobs.old })
         (record { bytes = J.remaining jobs.new; failures = J.failures jobs.new })
         (record { bytes = W.contents writer.old; failures = W.failures writer.old })
         (record { bytes = W.contents writer.new; failures = W.failures writer.new }) answer }

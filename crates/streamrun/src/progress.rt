@@ -12,6 +12,9 @@ use worker_pool::Gate;
 /// How many jobs a file has at most.
 const MOST_JOBS: usize = 256;
 
+/// How many positions a worker walks over between two calls of the gate.
+const STRETCH: u64 = 65_536;
+
 /// For how many milliseconds a line stands before it is written anew.
 const STEP: u64 = 250;
 
@@ -20,8 +23,11 @@ const STEP: u64 = 250;
 struct JobProgress {
     /// How many items its first walk goes over, as far as that was known before the jobs ran.
     items: AtomicU64,
-    /// How many positions of its pieces were entered, later walks included.
+    /// How many positions the pieces have that were entered, later walks included.
     entered: AtomicU64,
+    /// How many positions of these pieces, or values of inner streams, were walked over: a stretch of a piece counts as
+    /// it begins.
+    walked: AtomicU64,
 }
 
 /// The state of the line.
@@ -35,16 +41,17 @@ struct ShownLine {
 #[derive(Drop)]
 struct ReachedWork {
     items: u64,
-    entered: u64,
+    walked: u64,
 }
 
 impl ReachedWork {
-    /// How many thousandths of the items were entered; at most 999, since the run goes on as long as a line is shown.
+    /// How many thousandths of the items were walked over; at most 999, since the run goes on as long as a line is
+    /// shown.
     fn thousandths(&self) -> u64 {
         let share = if self.items < 1_000_000 {
-            self.entered.saturating_mul(1000) / self.items.max(1)
+            self.walked.saturating_mul(1000) / self.items.max(1)
         } else {
-            self.entered / (self.items / 1000).max(1)
+            self.walked / (self.items / 1000).max(1)
         };
         share.min(999)
     }
@@ -72,6 +79,8 @@ pub struct Progress<'a, H> {
     known: AtomicU64,
     /// How many jobs have answers.
     answered: AtomicU64,
+    /// Whether a job has no value: 1 if one has none.
+    lacking: AtomicU64,
     line: Mutex<ShownLine>,
     ended: AtomicU64,
 }
@@ -85,6 +94,7 @@ impl<'a, H> Progress<'a, H> {
                 let job = JobProgress {
                     items: AtomicU64::new(0),
                     entered: AtomicU64::new(0),
+                    walked: AtomicU64::new(0),
                 };
                 if jobs.push(job).is_err() {
                     break;
@@ -98,12 +108,23 @@ impl<'a, H> Progress<'a, H> {
             jobs,
             known: AtomicU64::new(0),
             answered: AtomicU64::new(0),
+            lacking: AtomicU64::new(0),
             line: Mutex::new(ShownLine {
                 is_shown: false,
                 is_over: false,
             }),
             ended: AtomicU64::new(0),
         }
+    }
+
+    /// Whether the run came to its jobs, and there are some.
+    pub fn has_jobs(&self) -> bool {
+        self.known.load(SeqCst) > 0
+    }
+
+    /// Whether the answer of a job is a fault, or says that the job is unusable.
+    pub fn lacks_value(&self) -> bool {
+        self.lacking.load(SeqCst) > 0
     }
 
     /// Whether there is a terminal to show it on.
@@ -151,13 +172,13 @@ impl<'a, H> Progress<'a, H> {
     fn reached(&self) -> ReachedWork {
         let mut reached = ReachedWork {
             items: 0,
-            entered: 0,
+            walked: 0,
         };
         for job in self.jobs.iter() {
             let items = job.items.load(SeqCst);
-            let entered = job.entered.load(SeqCst).min(items);
+            let walked = job.walked.load(SeqCst).min(job.entered.load(SeqCst));
             reached.items = reached.items.saturating_add(items);
-            reached.entered = reached.entered.saturating_add(entered);
+            reached.walked = reached.walked.saturating_add(walked.min(items));
         }
         reached
     }
@@ -199,7 +220,15 @@ impl<'a, H: Wait> Progress<'a, H> {
 impl<'a, H> Gate for Progress<'a, H> {
     fn at_leaf(&self, job: usize, from: u64, to: u64) {
         if let Some(job) = self.jobs.get(job) {
-            job.entered.fetch_add(to.saturating_sub(from), SeqCst);
+            let positions = to.saturating_sub(from);
+            job.entered.fetch_add(positions, SeqCst);
+            job.walked.fetch_add(positions.min(STRETCH), SeqCst);
+        }
+    }
+
+    fn at_stretch(&self, job: usize) {
+        if let Some(job) = self.jobs.get(job) {
+            job.walked.fetch_add(STRETCH, SeqCst);
         }
     }
 
@@ -214,8 +243,12 @@ impl<'a, H: Wait> RunGate for Progress<'a, H> {
     fn before_job(&self, job: usize, items: u64) {
         if let Some(job) = self.jobs.get(job) {
             job.items.store(items, SeqCst);
-            self.known.fetch_add(1, SeqCst);
         }
+        self.known.fetch_add(1, SeqCst);
+    }
+
+    fn without_value(&self) {
+        self.lacking.store(1, SeqCst);
     }
 
     fn before_report(&self) {

@@ -32,6 +32,9 @@ pub fn read_arguments<'a>(
 const VERSION_AND_PURPOSE: &str =
     "streamrun-merge 1.0.0: writes the report of a table, of the reports of its parts";
 
+/// What --version says after the name: the version, and whether the program is proved.
+const VERSION: &str = "1.0.0, proved";
+
 /// What the help says below the options.
 const EXAMPLE_AND_STATUSES: &str =
     r#"Each REPORT is what streamrun --json wrote of JOBS over a part of the table, in the
@@ -74,6 +77,7 @@ fn command_of<'a>(alloc: Global) -> Result<Command<'a>, AllocError> {
         .action(ArgAction::Append);
     Command::new(alloc, "streamrun-merge")
         .about(VERSION_AND_PURPOSE)
+        .version(VERSION)
         .after_help(EXAMPLE_AND_STATUSES)
         .arg(jobs)?
         .arg(reports)?

@@ -1,31 +1,30 @@
 //! `streamrun-merge --rows N,N,.. JOBS REPORT..`: writes the report of a table, made of the reports of its parts.
 //!
-//! Stands on `merge_run`, whose `merged_report` is the whole work, on `counted_io` for readers and writers, and on
-//! `clap` for the command line. What it promises is the contract of `merged_report`, which this program calls on the
-//! bytes of its files; what that gives it writes to standard output. Begin with `merge_run/specs/Merged.antt`; here
-//! there is only the command line, the reading of the files, the exit status, and the line on standard error.
-//! Not promised: that a file can be read or written, or that memory is there; the line on standard error says which it
-//! was.
+//! Stands on `merge_run`, whose `ended_run` is the whole work, on `counted_io` for readers and writers, and on
+//! `clap` for the command line. What it promises is the contract of `ended_run`, which this program calls on its open
+//! files and on standard output. Begin with `merge_run/specs/Run.antt`; here there is only the command line, and the
+//! opening of files.
+//! Not promised: that a file can be opened, read or written, or that memory is there; the line on standard error says
+//! which it was.
 #![tactic(auto)]
 
 mod command_line;
-mod telling;
 
 use clap::error::ErrorKind as ArgumentErrorKind;
 use command_line::{MergeArguments, read_arguments};
-use counted_io::{Counted, CountedOut, ReadAllFault, read_all_of, write_all_of};
-use merge_run::{PartReport, merged_report};
+use counted_io::{Counted, CountedOut};
+use merge_run::{MergeAsked, PartFile, ended_run};
 use std::alloc::{AllocError, AllocFailed};
+use std::fs::File;
 use std::io::{ErrorKind, Write};
 use std::process::ExitCode;
 use std::{env, fs};
-use telling::tell;
 
 /// The exit status if the command line is refused.
 const REFUSED: u8 = 2;
 
-/// The exit status if a file can't be opened, read or written.
-const NOT_DONE: u8 = 4;
+/// The exit status if a file can't be opened.
+const NOT_OPENED: u8 = 4;
 
 fn main(rt: HostRuntime) -> ExitCode {
     ExitCode::from(match read_command_line(&rt) {
@@ -37,7 +36,7 @@ fn main(rt: HostRuntime) -> ExitCode {
     })
 }
 
-/// Why the program ends before it merges.
+/// Why the program ends before it runs.
 #[derive(Drop)]
 enum Ending {
     /// All was said, and this is the exit status.
@@ -79,28 +78,31 @@ fn read_command_line(rt: &HostRuntime) -> Result<u8, Ending> {
     }
 }
 
-/// Reads the files, writes the merged report, and answers the exit status.
+/// Opens the files, the job file first, and runs; answers the exit status.
 fn merged(rt: &HostRuntime, arguments: &MergeArguments<'_>) -> Result<u8, Ending> {
     let rows = rows_of(rt, arguments)?;
-    let jobs = read_file(rt, arguments.jobs)?;
+    let mut jobs = opened(rt, arguments.jobs)?;
     let mut parts = Vec::new(rt.alloc());
     for (path, rows) in arguments.reports.iter().zip(&rows) {
-        parts.push(PartReport {
+        parts.push(PartFile {
             rows: *rows,
-            bytes: read_file(rt, path)?,
+            file: opened(rt, path)?,
         })?;
     }
-    let report = match merged_report(rt.alloc(), &jobs, arguments.language, parts, arguments.form) {
-        Ok(report) => report,
-        Err(fault) => return Ok(tell(&fault, arguments, &mut rt.stderr())),
+    let asked = MergeAsked {
+        form: arguments.form,
+        language: arguments.language,
+        jobs: arguments.jobs,
+        reports: &arguments.reports,
     };
-    match write_all_of(&mut CountedOut::new(rt.stdout()), &report) {
-        Ok(()) => Ok(0),
-        Err(fault) => {
-            let _ = writeln!(rt.stderr(), "streamrun-merge: {fault}");
-            Ok(NOT_DONE)
-        }
-    }
+    Ok(ended_run(
+        rt.alloc(),
+        &asked,
+        &mut jobs,
+        &mut parts,
+        &mut CountedOut::new(rt.stdout()),
+        &mut rt.stderr(),
+    ))
 }
 
 /// How many rows each report's part has, if each report has a number.
@@ -129,24 +131,16 @@ fn rows_of(rt: &HostRuntime, arguments: &MergeArguments<'_>) -> Result<Vec<u64>,
     Ok(rows)
 }
 
-/// All bytes of the file at this path.
-fn read_file(rt: &HostRuntime, path: &str) -> Result<Vec<u8>, Ending> {
+/// The open file at this path, with its length as the likely size if the system says it.
+fn opened(rt: &HostRuntime, path: &str) -> Result<Counted<File>, Ending> {
     let file = match fs::open(rt, path) {
         Ok(file) => file,
         Err(error) if error.kind() == ErrorKind::OutOfMemory => return Err(Ending::NoMemory),
         Err(_) => {
             let _ = writeln!(rt.stderr(), "streamrun-merge: cannot open {path}");
-            return Err(Ending::Said(NOT_DONE));
+            return Err(Ending::Said(NOT_OPENED));
         }
     };
     let size = file.metadata().map_or(0, |metadata| metadata.len());
-    let mut file = Counted::with_likely_size(file, usize::try_from(size).unwrap_or(0));
-    match read_all_of(rt.alloc(), &mut file) {
-        Ok(bytes) => Ok(bytes),
-        Err(ReadAllFault::NoMemory) => Err(Ending::NoMemory),
-        Err(ReadAllFault::Failed) => {
-            let _ = writeln!(rt.stderr(), "streamrun-merge: {path}: read failed");
-            Err(Ending::Said(NOT_DONE))
-        }
-    }
+    Ok(Counted::with_likely_size(file, usize::try_from(size).unwrap_or(0)))
 }

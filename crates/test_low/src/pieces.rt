@@ -1,8 +1,7 @@
 //! Files read in pieces on threads. The values were worked out by hand; a cut of any size gives them.
-use columns::{
-    ColumnFault, Columns, Separator, TableForm, read_columns, read_columns_as, read_columns_by,
-};
+use columns::{ColumnFault, Columns, TableForm, read_columns, read_columns_as, read_columns_by};
 use counted_io::Counted;
+use run_settings::Separator;
 use std::alloc::{AllocError, Global};
 use std::test::Fail;
 use std::thread::Threads;

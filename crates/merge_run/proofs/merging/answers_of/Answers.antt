@@ -8,7 +8,8 @@ use Rattle.report_merge.specs.declared.part.PartAnswers.{PartAnswers}
 use Rattle.report_merge.specs.Merging.{Part, part_of, parts_of}
 use Rattle.merge_run.specs.declared.part_report.PartReport.{PartReport}
 use Rattle.merge_run.specs.Merged.{ArePossible, AreReportsOf, IsReportOf}
-use Rattle.merge_run.proofs.ReportLemmas.{parts_more, possible_more, reports_more}
+use Rattle.merge_run.specs.Small.{ArePartsSmall}
+use Rattle.merge_run.proofs.ReportLemmas.{parts_more, parts_small_more, possible_more, reports_more}
 use Rattle.merge_run.proofs.merging.answers_of.Goals as goal
 
 pub loop-part-preserved : goal.loop-part-preserved
@@ -21,13 +22,15 @@ loop-part-preserved c =
     let items : c.push.new.self.items ≡ before ++ part ∷ [] = chosen _ _ _ _ c.push.ensures.items (ap is_ok c.in_ok-push.was) in
     let one : IsReportOf names c.in-Some.part (part_of part) = record { rows = refl; bytes = sym c.deref.ensures.value ∙ c.in-Ok.ensures.written } in
     let more = reports_more names c.loop-part.yielded (parts_of before) c.in-Some.part (part_of part) c.loop-part.invariant.0 one in
+    let small = parts_small_more names (parts_of before) (part_of part) c.loop-part.invariant.4 c.in-Ok.ensures.paired c.in-Ok.ensures.small in
     let can = possible_more jobs (parts_of before) (part_of part) c.loop-part.invariant.2 (sym (sym c.in_default.is ∙ c.in_ok-job.ensures)) in (
       subst (λ (found : List PartAnswers). AreReportsOf names all (parts_of found)) (sym items) (subst (λ (ps : List Part). AreReportsOf names all ps) (sym (parts_more before part)) more),
       subst (λ (found : List PartAnswers). All (λ (p : PartAnswers). All (IsNamed names) p.answers.items) found) (sym items)
           (All-push (λ (p : PartAnswers). All (IsNamed names) p.answers.items) before part c.loop-part.invariant.1 c.in-Ok.ensures.named),
       subst (λ (found : List PartAnswers). ArePossible jobs (parts_of found)) (sym items) (subst (λ (ps : List Part). ArePossible jobs ps) (sym (parts_more before part)) can),
       chosen _ _ _ _ c.push.ensures.len (ap is_ok c.in_ok-push.was) ∙ ap (λ (n : ℕ). n + 1) c.loop-part.invariant.3 ∙ sym (length-append c.loop-part.yielded (c.in-Some.part ∷ [])),
-      append_assoc c.loop-part.yielded (c.in-Some.part ∷ []) _ ∙ ap (λ (rs : List PartReport). c.loop-part.yielded ++ rs) (sym c.in-Some.ensures.steps.0) ∙ c.loop-part.invariant.4,
+      subst (λ (found : List PartAnswers). ArePartsSmall names (parts_of found)) (sym items) (subst (ArePartsSmall names) (sym (parts_more before part)) small),
+      append_assoc c.loop-part.yielded (c.in-Some.part ∷ []) _ ∙ ap (λ (rs : List PartReport). c.loop-part.yielded ++ rs) (sym c.in-Some.ensures.steps.0) ∙ c.loop-part.invariant.5,
     )
 
 pub returns-in-Some-2-clause-refused : goal.returns-in-Some-2-clause-refused
@@ -39,7 +42,7 @@ returns-in-Some-2-clause-refused c =
       before = c.loop-part.yielded;
       report = c.in-Some.part;
       later = _;
-      all = sym c.loop-part.invariant.4 ∙ ap (λ (rs : List PartReport). c.loop-part.yielded ++ rs) c.in-Some.ensures.steps.0;
+      all = sym c.loop-part.invariant.5 ∙ ap (λ (rs : List PartReport). c.loop-part.yielded ++ rs) c.in-Some.ensures.steps.0;
       number_is = c.len-in-Some-2.ensures ∙ c.loop-part.invariant.3;
       part = part_of part;
       read = subst (λ (ns : List (List ℕ)). IsReportOf ns c.in-Some.part (part_of part)) c.requires.names one;

@@ -39,7 +39,7 @@ returns-clause-ok c =
     let printed = c.in_ok-printed.ensures
     ∙ (ap (λ (ns : List (List ℕ)). report_in form ns c.deref-3.result.now) (c.deref-2.ensures.value ∙ sym c.deref.ensures.value) ∙ ap (λ (xs : List Answer). report_in form c.deref.result.now xs) c.deref-3.ensures.value) in
     merge_of form (jobs_of c.args.jobs.now) c.args.parts.items c.deref.result.now (parts_of c.in_ok-parts.parts.items) c.in-Ok.answers.items c.in_ok-printed.field-0.items
-    (c.deref.ensures.value ∙ c.in_ok-names.ensures) c.requires.mergeable c.in_ok-parts.ensures.read c.in_ok-parts.ensures.possible c.in-Ok.ensures.ok c.in-Ok.ensures.whole printed
+    (c.deref.ensures.value ∙ c.in_ok-names.ensures) c.requires.mergeable c.in_ok-parts.ensures.read c.in_ok-parts.ensures.small c.in_ok-parts.ensures.possible c.in-Ok.ensures.ok c.in-Ok.ensures.whole printed
 
 pub answers_of-requires-clause-names : goal.answers_of-requires-clause-names
 answers_of-requires-clause-names c = c.deref.ensures.value ∙ c.in_ok-names.ensures

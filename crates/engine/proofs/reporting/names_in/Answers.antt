@@ -1,7 +1,7 @@
 use Rattle.std.proofs.Common.{[], ◌∷◌, ◌++◌, ap, sym, ◌∙◌, is_ok}
 use Rattle.std.proofs.ResultArms.{chosen}
 use Rattle.job_plan.proofs.NameLemmas.{plan_names_more}
-use Rattle.engine.proofs.running.names_in.Goals as goal
+use Rattle.engine.proofs.reporting.names_in.Goals as goal
 
 pub loop-job-preserved : goal.loop-job-preserved
 loop-job-preserved c =
