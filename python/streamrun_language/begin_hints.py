@@ -87,6 +87,8 @@ STRUCTURE = [
          lambda s: f'A job has a name and no type: {without(text(s, 0, s.index - 1) + " ")}.'),
     Rule('name', lambda s: begins_name(s) and dashed_name(s),
          lambda s: f'A name has letters, digits and _, and begins with no digit: {instead(dashed_name(s), name_as_it_stands(s))}.'),
+    Rule('comment of SQL', lambda s: s.wanted is Wanted.NAME and s.word() == '--',
+         lambda s: f'A comment begins with # or //: {instead("#", "--")}.'),
     Rule('name in quotes', lambda s: s.wanted is Wanted.NAME and s.kind() is Kind.STRING,
          lambda s: f'A name stands without quotes: {instead(re.sub("[^A-Za-z0-9_]", "_", s.word()[1:-1]), s.word())}.'),
     Rule('sum of a job', lambda s: s.wanted is Wanted.EQUALS and s.word() in ('+', '-', '*') and s.word(1) == '=',

@@ -25,8 +25,11 @@ SPACED = "['_ \u00a0\u2009\u202f\u2019]"
 SHORT = 19
 MOST_PLACES, MOST_EXACT, DAY = 6, 2 ** 53, 86400
 TWO_DIGITS = r'gsub(X, "\b([0-9])\b", "0\1")'
+# Letters for thousands and millions.
+SCALES = {'': 1, 'k': 10 ** 3, 'K': 10 ** 3, 'M': 10 ** 6}
 # Dates and times: what a cell looks like, what mlr reads it by, and the cell as it is read.
-TIMES = [(r'(T|t| +)\d\d:\d\d', '%H:%M', ''), (r'(T|t| +)\d\d:\d\d:\d\d', '%H:%M:%S', ''), (r'T\d\d:\d\d:\d\dZ', '%H:%M:%SZ', ''),
+TIMES = [(r'(T|t| +)\d?\d:\d\d', '%H:%M', ''), (r'(T|t| +)\d?\d:\d\d:\d\d', '%H:%M:%S', ''),
+         (r' +\d?\d:\d\d [ap]m', '%I:%M %p', ''), (r' +\d?\d:\d\d:\d\d [ap]m', '%I:%M:%S %p', ''), (r'T\d\d:\d\d:\d\dZ', '%H:%M:%SZ', ''),
          (r'T\d\d:\d\d:\d\d[+-]\d\d\d\d', '%H:%M:%S%z', ''),
          (r'T\d\d:\d\d:\d\d[+-]\d\d:\d\d', '%H:%M:%S%z', r'sub(X, ":([0-9][0-9])$", "\1")'),
          (r'[T ]\d\d:\d\d:\d\d[.]\d+', '%H:%M:%S', 'sub(X, "[.][0-9]+$", "")'),
@@ -189,19 +192,24 @@ def day_format(cells: Sequence[str]) -> Tuple[str, str, str]:
     return ('', '', '') if is_day_first and is_month_first else (wanted, EITHER, unsure)
 
 
+def has_single_digit(cell: str) -> bool:
+    """Whether a day, a month or an hour has one digit."""
+    return re.search(r'(?<![\d.])\d(?!\d)', cell) is not None
+
+
 def dates(cells: Sequence[str]) -> Optional[Form]:
     """Dates, which become numbers of days, and dates with a time of day, which become seconds."""
     wanted, _, unsure = day_format(cells)
-    single = any(re.search(r'(?<!\d)\d(?!\d)', cell) for cell in cells)
     if wanted:
-        cell = TWO_DIGITS if single else 'X'
+        cell = TWO_DIGITS if any(map(has_single_digit, cells)) else 'X'
         return Form('dates', f'dates, {wanted}', f'Dates become numbers of days{unsure}',
                     f'strptime({cell}, "{wanted}") // {DAY}')
     for pattern, clock, cell in TIMES:
-        halves = [re.fullmatch(rf'(.+?)({pattern})', it) for it in cells]
+        halves = [re.fullmatch(rf'(.+?)({pattern})', it, re.I) for it in cells]
         day = day_format([it[1] for it in halves])[0] if all(halves) else ''
         if day:
             between = re.match(r'T|t| +', halves[0][2])[0]
+            cell = TWO_DIGITS.replace('X', cell or 'X') if any(has_single_digit(it) for it in cells) else cell
             return Form('times', f'dates with a time, {day}{between}{clock}',
                         'Times become seconds since 1970, of which 86400 are one of the days',
                         f'strptime({cell or "X"}, "{day}{between}{clock}")')
@@ -209,12 +217,35 @@ def dates(cells: Sequence[str]) -> Optional[Form]:
 
 
 def clock(cells: Sequence[str]) -> Optional[Form]:
-    """Times of a day."""
-    if all_match(r'\d+:\d\d:\d\d', cells):
+    """Times of a day, and durations."""
+    if all_match(r'-?\d+:\d\d:\d\d', cells):
         return Form('clock', 'times of a day', 'Times become seconds', 'hms2sec(X)')
     if all_match(r'\d+:\d\d', cells):
-        return Form('clock', 'times of a day', 'Times become seconds', 'hms2sec(X . ":00")')
+        if all(int(cell.partition(':')[0]) <= 24 for cell in cells):
+            return Form('clock', 'times of a day', 'Hours and minutes become seconds', 'hms2sec(X . ":00")')
+        return Form('clock', 'minutes and seconds', 'Minutes and seconds become seconds, and hours and minutes would by X . ":00"', 'hms2sec("0:" . X)')
+    for pattern, wanted in (('', '%I:%M'), (r':\d\d', '%I:%M:%S')):
+        for blank in ('', ' '):
+            if all_match(rf'\d?\d:\d\d{pattern}{blank}[ap]m', cells):
+                cell = TWO_DIGITS if any(map(has_single_digit, cells)) else 'X'
+                return Form('clock', 'times of a day', 'Times become seconds', f'strptime("1970-01-01 " . {cell}, "%Y-%m-%d {wanted}{blank}%p")')
     return None
+
+
+def magnitudes(cells: Sequence[str]) -> Optional[Form]:
+    """Numbers with a letter for thousands or millions."""
+    found = [re.fullmatch(r'([+-]?(?:\d+\.?\d*|\.\d+)) ?([kKM]?)', cell) for cell in cells]
+    if not all(found) or not any(it[2] for it in found):
+        return None
+    values = [Decimal(it[1]) * SCALES[it[2]] for it in found]
+    places = places_of([f'{value.normalize():f}' for value in values])
+    if places > MOST_PLACES or max(map(abs, values)) * 10 ** places > MOST_EXACT:
+        return None
+    scales = {'[kK]': 1000, 'M': 1000000}
+    factor = ' : '.join(f'string(X) =~ "{letter}$" ? {scale}' for letter, scale in scales.items() if any(re.match(letter, it[2]) for it in found))
+    number = f'float(sub(string(X), " ?[kKM]$", "")) * ({factor} : 1)'
+    value = scaled(number, places) if places else f'int(round({number}))'
+    return Form('magnitudes', 'numbers with k or M', 'A number has digits alone: k is 1000, M is 1000000' + (f', and keep {kept(places)}' if places else ''), value)
 
 
 def booleans(cells: Sequence[str]) -> Optional[Form]:
@@ -233,7 +264,7 @@ def quoted(cells: Sequence[str]) -> Optional[Form]:
 
 
 FORMS: List[Callable[[Sequence[str]], Optional[Form]]] = [
-    integers, decimals, hexadecimal, clock, dates, booleans, quoted, written]
+    integers, decimals, hexadecimal, clock, dates, booleans, quoted, magnitudes, written]
 
 
 def is_missing(cell: str) -> bool:

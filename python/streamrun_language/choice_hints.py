@@ -4,11 +4,14 @@ from __future__ import annotations
 import re
 from typing import List, Tuple
 
-from .operands import SIDES, call_at, closing, end_of, instead, start_of, text, without
+from . import java_words
+from .operands import RELATIONS, SIDES, call_at, closing, end_of, instead, operand_end, start_of, text, without
 from .refusals import Wanted
 from .site import Rule, Site
 from .tokens import Kind
 
+# Operators that other languages join with =, and after which a comparison may lack its left side.
+ASSIGNED, BEFORE_SIDES = ('+', '-', '*', '/', '%', '&', '|', '^', '<<', '>>', '>>>'), ('&&', '||', '->')
 CHOICES = ('if', 'then', 'else', 'elif', 'when', 'case')
 FORMS = [r'(?:case\s+when|if)\s+(?P<c>.+?)\s+then\s+(?P<a>.+?)\s+else\s+(?P<b>.+?)(\s+end)?',
          r'if\s*\((?P<c>.+?)\)\s*(?P<a>.+?)\s*;?\s+else\s+(?P<b>.+)', r'(?P<a>.+?)\s+if\s+(?P<c>.+?)\s+else\s+(?P<b>.+)']
@@ -129,7 +132,80 @@ def is_needless(site: Site) -> bool:
     return re.search(r'::(nonNull|valueOf|longValue|intValue|identity|parseLong|toString)\b', site.argument()) is not None
 
 
+def assignment_hint(site: Site) -> str:
+    """What to write for an operator that is joined with =."""
+    end, sign = end_of(site, site.index), site.word(-1)
+    value = text(site, site.index + 1, end)
+    value = value if operand_end(site, min(site.index + 1, end)) == end else f'({value})'
+    return f'A lambda is a value, and stores none: {instead(f"{sign} {value}", text(site, site.index - 1, end))}.'
+
+
+def comparison_before(site: Site, end: int) -> Tuple[str, str, str]:
+    """The sides of the comparison that ends before the token of an index, with the sign between them; empty texts if there is none,
+    or more than one."""
+    start = start_of(site, end)
+    signs = [at for at in range(start, end) if site.tokens[at].text in RELATIONS]
+    return (text(site, start, signs[0] - 1), site.tokens[signs[0]].text, text(site, signs[0] + 1, end - 1)) if len(signs) == 1 else ('', '', '')
+
+
+def is_number(part: str) -> bool:
+    """Whether an operand is a number."""
+    return re.fullmatch(r'-?\d+[lL]?', part) is not None
+
+
+def like_before(site: Site, value: str) -> str:
+    """A comparison of another value, by the sign and a side of the comparison before the place; nothing if there is none."""
+    left, sign, right = comparison_before(site, site.index)
+    is_other = sign and value not in (left, right)
+    return is_other and (f'{value} {sign} {right}' if is_number(left) else f'{left} {sign} {value}') or ''
+
+
+def compared_before(site: Site) -> str:
+    """What is compared before the operator before the place, or the parameter; nothing if it can't be seen."""
+    if site.word(-1) == '->':
+        at = -3 if site.word(-2) == ')' else -2
+        return site.word(at) if site.kind(at) is Kind.NAME else ''
+    left, _, right = comparison_before(site, site.index - 1)
+    return right if is_number(left) else left
+
+
+def half_comparison(site: Site) -> str:
+    """What to write for a comparison whose left side is left out, or nothing."""
+    value = compared_before(site) if site.word() in RELATIONS and site.word(-1) in BEFORE_SIDES else ''
+    right = text(site, site.index, end_of(site, site.index))
+    return instead(f'{site.word(-1)} {value} {right}', text(site, site.index - 1, end_of(site, site.index))) if value else ''
+
+
+def half_side(site: Site) -> str:
+    """What to write for a number beside `or` or `and`, after a comparison; nothing for others."""
+    sign, end = {'or': '||', 'and': '&&'}.get(site.word().lower(), ''), end_of(site, site.index)
+    made = like_before(site, text(site, site.index + 1, end)) if sign else ''
+    return made and instead(f'{sign} {made}', text(site, site.index, end))
+
+
+def typed_parameter(site: Site) -> str:
+    """What to write for a parameter with its type, or nothing."""
+    at = 0 if site.word() in java_words.TYPES else -1
+    is_typed = site.word(at) in java_words.TYPES and site.kind(at + 1) is Kind.NAME and site.word(at + 2) == '->'
+    return instead(site.word(at + 1), f'{site.word(at)} {site.word(at + 1)}') if is_typed else ''
+
+
+def number_or_other(site: Site) -> str:
+    """What to write for `or` and `and` between numbers, which choose one of both in other languages; nothing for other words."""
+    sign = {'||': 'or', '&&': 'and'}.get(site.word(), site.word().lower())
+    if sign not in ('or', 'and'):
+        return ''
+    start, end = start_of(site, site.index), end_of(site, site.index)
+    value, other = text(site, start, site.index - 1), text(site, site.index + 1, end)
+    return instead(f'{value} != 0 ? {f"{value} : {other}" if sign == "or" else f"{other} : 0"}', text(site, start, end))
+
+
 CHOICE_RULES = [
+    Rule('assignment', lambda s: s.word() == '=' and s.touches() and s.word(-1) in ASSIGNED, assignment_hint),
+    Rule('half of a comparison', half_comparison, lambda s: f'A comparison has two sides: {half_comparison(s)}.'),
+    Rule('type of a parameter', typed_parameter, lambda s: f'All numbers are long: {typed_parameter(s)}.'),
+    Rule('value for nothing', lambda s: s.word(-1) == '?' and s.touches() and s.word() in ('?', ':'),
+         lambda s: f'Each item is a number, and a blank cell is what --blank says: {without(text(s, s.index - 1, end_of(s, s.index)))}.'),
     Rule('list of values', is_in, in_hint),
     Rule('between', lambda s: s.word().lower() == 'between', between_hint),
     Rule('not', lambda s: s.word(-1) == 'not' and s.wanted is not Wanted.ARROW, not_hint),

@@ -165,6 +165,13 @@ def calculated_source(site: Site) -> str:
     return 'Calculations stand in a lambda, such as .map(x -> x * 2), and those with numbers of jobs in a job below, docs/tutorial.md.'
 
 
+def two_parameters(site: Site) -> Tuple[str, str]:
+    """Two parameters without parentheses, as they are written, and as they stand; or empty texts."""
+    before = site.job.text[site.tokens[site.open_at() or 0].end:].decode('latin-1')
+    found = re.search(r'(?:^|,)\s*((?:\w+ +)?([A-Za-z_]\w*)\s*,\s*(?:\w+ +)?([A-Za-z_]\w*)\s*->)', before)
+    return (f'({found[2]}, {found[3]}) ->', found[1]) if found else ('', '')
+
+
 PARTS = [
     Rule('parentheses', lambda s: s.wanted is Wanted.OPEN,
          lambda s: f'An operation has parentheses: {with_parentheses(s)}.'),
@@ -204,6 +211,8 @@ PARTS = [
     Rule('two parameters', lambda s: s.wanted is Wanted.ARGUMENT_END and s.inside() not in ('reduce', 'prefix')
              and re.match(r',\s*\w+\s*->', s.rest.decode('latin-1')),
          f'A lambda has one parameter, an item of one column: {OTHER_CELL}. No comma stands outside inner parentheses.'),
+    Rule('parentheses of parameters', lambda s: s.wanted is Wanted.ARGUMENT_END and s.inside() in ('reduce', 'prefix') and two_parameters(s)[1],
+         lambda s: f'Two parameters stand in parentheses: {instead(*two_parameters(s))}.'),
     Rule('one argument', lambda s: s.wanted is Wanted.ARGUMENT_END,
          lambda s: f'A comma stands in inner parentheses alone: {shape(s.inside())}.'),
     Rule('no argument', lambda s: s.wanted is Wanted.ARGUMENT,

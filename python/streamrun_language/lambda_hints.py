@@ -5,7 +5,7 @@ import re
 from typing import Tuple
 
 from . import java_words
-from .choice_hints import bare_lambda
+from .choice_hints import bare_lambda, half_side, number_or_other
 from .lambdas import RESERVED, STREAMS
 from .operands import TERMS, call_at, closing, instead, operand_end, start_of, text, without
 from .refusals import Wanted
@@ -15,6 +15,7 @@ from .syntax import OPERATIONS
 from .tokens import SYMBOLS, Kind
 from .values import BINDS, CALLS
 
+NO_GAPS = 'Each item is a number, and a blank cell is what --blank says'
 OPERATES = {*BINDS, '!', '~', '?', ':'}
 
 
@@ -57,6 +58,9 @@ def method_hint(site: Site) -> str:
 def call_hint(site: Site) -> str:
     """What to write for a call without a class."""
     name = site.word(-1)
+    old, parts = call_at(site, site.index)
+    if name.lower() in ('nvl', 'coalesce', 'ifnull') and parts:
+        return f'{NO_GAPS}: {instead(parts[0], old)}.'
     if name in STREAMS:
         return f'`{name}` is an inner stream, which stands in flatMap: .flatMap(x -> {name}(..)).'
     if name in ('result', 'concat'):
@@ -196,6 +200,8 @@ EXPRESSIONS = [
          lambda s: f'Something is missing between {s.word(-1)} and {s.word()}: a number or the parameter.'),
     Rule('comma in parentheses', lambda s: s.word() == ',',
          'A comma stands between operands of a method alone: Math.max(x, 0).'),
+    Rule('choice between numbers', number_or_other, lambda s: f'A number is no condition: {number_or_other(s)}; bits are joined by | and &.'),
+    Rule('number beside a comparison', half_side, lambda s: f'Both sides are conditions: {half_side(s)}.'),
     Rule('missing operator', lambda s: s.wanted in (Wanted.OPERATOR_OR_END, Wanted.OPERATOR_OR_CLOSE),
          lambda s: f'An operator is missing before {s.word()}, such as + or *.'),
 ]

@@ -5,6 +5,7 @@ import re
 from typing import List, Optional
 
 from . import expressions as e
+from .choice_hints import like_before, number_or_other
 from .lambdas import Want
 from .operands import RELATIONS, TERMS, closing, end_of, instead, opening, operand_end, start_of, text, without
 from .site import Rule, Site
@@ -60,12 +61,11 @@ def chain_hint(site: Site) -> str:
 
 def side_hint(site: Site) -> str:
     """What to write for a side of && or || that is a number."""
-    start, end = start_of(site, site.index), end_of(site, site.index)
-    relation = next((at for at in range(start, site.index) if site.tokens[at].text in RELATIONS), None)
-    right = text(site, site.index + 1, end)
-    if relation is None or any(site.tokens[at].text in RELATIONS for at in range(site.index + 1, end + 1)):
+    end = end_of(site, site.index)
+    made = like_before(site, text(site, site.index + 1, end))
+    if not made or any(site.tokens[at].text in RELATIONS for at in range(site.index + 1, end + 1)):
         return f'Each side of {site.about.name} is a condition, such as x != 0.'
-    cure = f'{text(site, site.index, site.index)} {text(site, start, relation)} {right}'
+    cure = f'{text(site, site.index, site.index)} {made}'
     return f'Each side of {site.about.name} is a condition: {instead(cure, text(site, site.index, end))}.'
 
 
@@ -127,6 +127,8 @@ TYPES = [
     Rule('compared conditions', lambda s: is_binary(s, '==', '!=') and 'boolean' in types(s), equality_hint),
     Rule('chain', lambda s: is_binary(s, *RELATIONS) and types(s)[0] == 'boolean',
          chain_hint),
+    Rule('choice between numbers', lambda s: is_binary(s, '&&', '||') and types(s) == ['long', 'long'],
+         lambda s: f'A number is no condition: {number_or_other(s)}; bits are joined by | and &.'),
     Rule('side that is no condition', lambda s: is_binary(s, '&&', '||') and 'long' in types(s),
          side_hint),
     Rule('numbers of conditions', lambda s: isinstance(s.about, e.Applied) and not is_binary(s, '&&', '||') and

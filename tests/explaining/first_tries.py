@@ -124,6 +124,23 @@ LAMBDAS = [
     ('x = column("price").map(p -> \u00a6p > 100).sum()', 'x = 5'),
     ('x = column("price").map(p -> (p > 100) \u00a6* p).sum()', 'x = 1675'),
     ('x = column("price").filter(p -> p != \u00a6null).count()', 'x = 6'),
+    ('x = column("price").map(p -> p +\u00a6= 1).sum()', 'x = 1781'),
+    ('x = column("price").map(p -> p *\u00a6= 1 + 1).sum()', 'x = 3550'),
+    ('x = column("price").map(p -> p ?\u00a6? 0).sum()', 'x = 1775'),
+    ('x = column("price").map(p -> (p ?\u00a6: 0) * 2).sum()', 'x = 3550'),
+    ('x = column("price").map(p -> nvl\u00a6(p, 0)).sum()', 'x = 1775'),
+    ('x = of(0, 3).map(x -> x \u00a6or 5).sum()', 'x = 8'),
+    ('x = of(0, 3).map(x -> x \u00a6and 5).sum()', 'x = 5'),
+    ('x = of(0, 3).map(x -> x \u00a6|| 5).sum()', 'x = 8'),
+    ('x = column("price").map(int \u00a6p -> p * 2).sum()', 'x = 3550'),
+    ('x = column("price").map(\u00a6long p -> p * 2).sum()', 'x = 3550'),
+    ('x = column("price").filter(p -> p >= 200 && \u00a6<= 300).count()', 'x = 3'),
+    ('x = column("price").filter(p -> 200 <= p && \u00a6< 300).count()', 'x = 2'),
+    ('x = column("price").filter(p -> \u00a6> 300).count()', 'x = 2'),
+    ('x = column("price").filter(p -> p == 100 \u00a6or 200).count()', 'x = 2'),
+    ('x = column("price").filter(p -> 100 == p \u00a6|| 200).count()', 'x = 2'),
+    ('x = column("qty").reduce(a\u00a6, b -> a + b)', 'x = OptionalLong[24]'),
+    ('x = column("qty").reduce(0, int a\u00a6, int b -> a + b)', 'x = 24'),
     ('n = column("price").count()\nx = range(0, 9).filter(x -> x < \u00a6n).count()', 'n = 6\nx = 6'),
 ]
 
@@ -159,6 +176,7 @@ BEGINS = [
     ('total \u00a6+= column("price").sum()', 'total = 1775'),
     ('my\u00a6-total = column("price").sum()', 'my_total = 1775'),
     ('column\u00a6("price").sum()', 'total = 1775'),
+    ('\u00a6-- the sum\nx = column("price").sum()', 'x = 1775'),
 ]
 
 # Stages, terminals and what stands after them.

@@ -9,6 +9,9 @@ const STANDARD_INPUT_PATH: &str = "/dev/stdin";
 /// What to write instead of a table among the job files.
 const TABLE_OPTION: &str = "a table goes after --columns";
 
+/// What to write instead of jobs themselves.
+const JOBS_FILE: &str = "jobs are read from a file, or from - (standard input)";
+
 /// The path of the file with this name.
 pub fn path_of(name: &str) -> &str {
     if name == STANDARD_INPUT {
@@ -45,13 +48,33 @@ pub fn doubt_about(columns: Option<&str>, jobs: &str) -> Option<&'static str> {
     }
 }
 
+/// What to say of the name of a job file that can't be opened, if it looks like jobs.
+pub fn doubt_about_name(jobs: &str) -> Option<&'static str> {
+    if jobs.contains("(") && !jobs.ends_with(".jobs") {
+        Some(JOBS_FILE)
+    } else {
+        None
+    }
+}
+
+/// What to write instead of an option that other programs have. It is said alone: options that are spelled alike here
+/// mean something else.
+pub fn option_elsewhere(words: &[&str]) -> Option<&'static str> {
+    for word in words.iter() {
+        if word.starts_with("--thread") {
+            return Some("--workers says how many threads run the jobs");
+        }
+        if *word == "-e" {
+            return Some(JOBS_FILE);
+        }
+    }
+    None
+}
+
 /// What to write instead of words that are refused, if it can be seen from them.
 pub fn advice_on(words: &[&str]) -> Option<&'static str> {
     let mut follows_option = false;
     for word in words.iter() {
-        if word.starts_with("--threads") {
-            return Some("--workers says how many threads run the jobs");
-        }
         if is_table(word) && !follows_option && !word.starts_with("-") {
             return Some(TABLE_OPTION);
         }

@@ -22,7 +22,9 @@ mod command_line;
 mod progress;
 mod table_options;
 
-use advice::{advice_on, are_both_standard_input, doubt_about, path_of};
+use advice::{
+    advice_on, are_both_standard_input, doubt_about, doubt_about_name, option_elsewhere, path_of,
+};
 use clap::error::ErrorKind as ArgumentErrorKind;
 use command_line::{Arguments, read_arguments};
 use counted_io::{Counted, CountedOut, CountedRead, CountedWrite};
@@ -31,7 +33,7 @@ use progress::Progress;
 use run_settings::Settings;
 use std::alloc::AllocError;
 use std::fs::File;
-use std::io::{ErrorKind, Write};
+use std::io::{ErrorKind, Read, Write};
 use std::process::ExitCode;
 use std::sync::Wait;
 use std::thread::Threads;
@@ -40,8 +42,8 @@ use std::{env, fs, thread};
 /// The exit status if the command line is refused.
 const REFUSED: u8 = 2;
 
-/// The exit status if a file can't be opened.
-const NOT_OPENED: u8 = 4;
+/// The exit status if a file can't be opened, read or written.
+const FILE_FAILED: u8 = 4;
 
 /// The exit status of a run that wrote its report.
 const WRITTEN: u8 = 0;
@@ -60,11 +62,18 @@ fn main(rt: HostRuntime) -> ExitCode {
     })
 }
 
+/// An open file, and its name.
+#[derive(Drop)]
+struct NamedFile {
+    name: String,
+    file: Counted<File>,
+}
+
 /// What a run is given: open files, and its settings.
 #[derive(Drop)]
 struct GivenFiles {
-    columns: Option<Counted<File>>,
-    jobs: Counted<File>,
+    columns: Option<NamedFile>,
+    jobs: NamedFile,
     settings: Settings,
     /// Whether a job without a value changes the exit status.
     fails: bool,
@@ -99,12 +108,16 @@ fn read_words(rt: &HostRuntime, given: &[String]) -> Result<Asked, AllocError> {
     match read_arguments(rt.alloc(), &words) {
         Ok(arguments) => opened_by(rt, &arguments),
         Err(error) if error.kind() == ArgumentErrorKind::OutOfMemory => Err(AllocError),
+        Err(answer) if answer.exit_code() == 0 => {
+            let _ = answer.print(rt);
+            Ok(Asked::End(0))
+        }
         Err(refused) => {
-            let _ = refused.print(rt);
-            if refused.exit_code() == 0 {
-                return Ok(Asked::End(0));
+            let elsewhere = option_elsewhere(&words);
+            if elsewhere.is_none() {
+                let _ = refused.print(rt);
             }
-            say(rt, advice_on(&words));
+            say(rt, elsewhere.or(advice_on(&words)));
             Ok(Asked::End(REFUSED))
         }
     }
@@ -129,27 +142,33 @@ fn opened_by(rt: &HostRuntime, arguments: &Arguments<'_>) -> Result<Asked, Alloc
     }
     let columns = match arguments.columns {
         Some(name) => match opened(rt, name, "columns")? {
-            Some(file) => Some(counted(file)),
-            None => return Ok(Asked::End(NOT_OPENED)),
+            Some(file) => Some(file),
+            None => return Ok(Asked::End(FILE_FAILED)),
         },
         None => None,
     };
     match opened(rt, arguments.jobs, "jobs")? {
         Some(jobs) => Ok(Asked::Run(GivenFiles {
             columns,
-            jobs: counted(jobs),
+            jobs,
             settings,
             fails: arguments.fails,
             doubt: doubt_about(arguments.columns, arguments.jobs),
         })),
-        None => Ok(Asked::End(NOT_OPENED)),
+        None => {
+            say(rt, doubt_about_name(arguments.jobs));
+            Ok(Asked::End(FILE_FAILED))
+        }
     }
 }
 
 /// The open file of this name, or none after a line that says which file can't be opened, and one that says why.
-fn opened(rt: &HostRuntime, name: &str, which: &str) -> Result<Option<File>, AllocError> {
+fn opened(rt: &HostRuntime, name: &str, which: &str) -> Result<Option<NamedFile>, AllocError> {
     match fs::open(rt, path_of(name)) {
-        Ok(file) => Ok(Some(file)),
+        Ok(file) => Ok(Some(NamedFile {
+            name: String::from_str(rt.alloc(), name)?,
+            file: counted(file),
+        })),
         Err(error) if error.kind() == ErrorKind::OutOfMemory => Err(AllocError),
         Err(error) => {
             let _ = writeln!(rt.stderr(), "streamrun: cannot open {which}");
@@ -185,19 +204,40 @@ fn watched_run<H: Threads + Wait + Sync>(rt: &HostRuntime, threads: &H, given: G
             doubt,
         } = given;
         let mut writer = CountedOut::new(rt.stdout());
-        let columns = columns.as_mut();
+        let table = match &mut columns {
+            Some(columns) => Some(&mut columns.file),
+            None => None,
+        };
         let status = ended_run(
             rt,
             threads,
-            columns,
-            &mut jobs,
+            table,
+            &mut jobs.file,
             &mut writer,
             &settings,
             progress,
         );
+        if status == FILE_FAILED {
+            say_reason(rt, columns);
+            say_reason(rt, Some(jobs));
+        }
         say(rt, remark(status, progress.has_jobs(), doubt));
         status_with(status, fails && progress.lacks_value())
     })
+}
+
+/// Says why a file can't be read, if a read of it failed and the next one fails too.
+fn say_reason(rt: &HostRuntime, given: Option<NamedFile>) {
+    if let Some(NamedFile { name, file }) = given {
+        if file.failures() > 0 {
+            let read = file.into_inner().read(&mut [0]);
+            if let Err(error) = read {
+                if error.kind() != ErrorKind::Interrupted {
+                    let _ = writeln!(rt.stderr(), "streamrun: {name}: {error}");
+                }
+            }
+        }
+    }
 }
 
 /// What to say beside the report or the refusal of a run that ended with this status.
