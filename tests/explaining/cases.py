@@ -137,11 +137,13 @@ def wrong_commands():
         good, bad, table = (write(os.path.join(folder, name), text) for name, text in texts.items())
         shown = f'streamrun: jobs: line 1: syntax\n\n{bad}, line 2, column 3:\n     .zum()\n      ^\n{MEANT}\n'
         cell = f'streamrun: columns: bad number in row 1 column 1\n\n{table}, line 2, column 1, row 1 of "a":\n    x\n    ^\n'
+        missing = 'streamrun: cannot open {}\nstreamrun: nowhere: No such file or directory (os error 2)\n'
+        a_folder = f'streamrun: {{}}: read failed\nstreamrun: {folder}: Is a directory (os error 21)\n'
         for arguments, wanted in [
                 ([good], ('accepted\n', '', 0)), ([good, '--json'], ('{}\n', '', 0)), ([bad], (shown, '', 1)),
-                (['nowhere'], ('', 'streamrun: cannot open jobs\n', 4)), ([folder], ('', 'streamrun: jobs: read failed\n', 4)),
-                (['nowhere', '--columns', 'nowhere'], ('', 'streamrun: cannot open columns\n', 4)),
-                ([good, '--columns', folder], ('', 'streamrun: columns: read failed\n', 4))]:
+                (['nowhere'], ('', missing.format('jobs'), 4)), ([folder], ('', a_folder.format('jobs'), 4)),
+                (['nowhere', '--columns', 'nowhere'], ('', missing.format('columns'), 4)),
+                ([good, '--columns', folder], ('', a_folder.format('columns'), 4))]:
             if run(*arguments) != wanted:
                 yield f'{arguments}: {run(*arguments)}'
         view = (f'1 column, 1 row\n\n  a: text\n\nstreamrun --only-named --columns {table} JOBS\nNot read: a. Codes for texts: docs/tables.md.\n', '', 1)

@@ -248,14 +248,16 @@ def processes(test, folder):
     columns, jobs = write(folder, 'table.csv', TABLE), write(folder, 'jobs', b's = column("a").sum()\n')
     other = write(folder, 'other.csv', b'a,c\n1,2\n')
     begin = ['run', '--parts', 2, '--program', test.program, '--merger', test.merger, '--columns']
+    missing = 'streamrun: /none: No such file or directory (os error 2)'
+    a_folder = f'streamrun: {folder}: Is a directory (os error 21)'
     parts = os.path.join(folder, 'parts')
     test.expect('cut', real('cut', '--parts', 3, columns, parts) == (b'2,1,1\n', b'', 0), os.listdir(parts))
     for name, arguments, status, line in [
-            ('no table', [*begin, '/none', jobs], 4, 'streamrun: cannot open columns'),
-            ('neither file', [*begin, '/none', '/none'], 4, 'streamrun: cannot open columns'),
-            ('no job file', [*begin, columns, '/none'], 4, 'streamrun: cannot open jobs'),
-            ('a folder', [*begin, folder, jobs], 4, 'streamrun: columns: read failed'),
-            ('a folder of jobs', [*begin, columns, folder], 4, 'streamrun: jobs: read failed'),
+            ('no table', [*begin, '/none', jobs], 4, f'streamrun: cannot open columns\n{missing}'),
+            ('neither file', [*begin, '/none', '/none'], 4, f'streamrun: cannot open columns\n{missing}'),
+            ('no job file', [*begin, columns, '/none'], 4, f'streamrun: cannot open jobs\n{missing}'),
+            ('a folder', [*begin, folder, jobs], 4, f'streamrun: columns: read failed\n{a_folder}'),
+            ('a folder of jobs', [*begin, columns, folder], 4, f'streamrun: jobs: read failed\n{a_folder}'),
             ('another header', [*begin, columns, other, jobs], 1, f'scatter: {other}: another header than {columns}'),
             ('no program', ['run', '--program', '/none', '--columns', columns, jobs], 4, 'scatter: no program /none'),
             ('another program', ['run', '--program', '/bin/true', '--columns', columns, jobs], 4, 'scatter: /bin/true is no streamrun'),

@@ -79,13 +79,12 @@ def read(path):
 
 
 def opened(what, path, take):
-    """What a call makes of a file, or the line that streamrun writes if it can't be opened or read."""
+    """What a call makes of a file, or the lines that streamrun writes if it can't be opened or read."""
     try:
         return take(path)
-    except IsADirectoryError:
-        raise Ended(f'streamrun: {what}: read failed', 4) from None
-    except OSError:
-        raise Ended(f'streamrun: cannot open {what}', 4) from None
+    except OSError as error:
+        line = f'{what}: read failed' if isinstance(error, IsADirectoryError) else f'cannot open {what}'
+        raise Ended(f'streamrun: {line}\nstreamrun: {path}: {os.strerror(error.errno)} (os error {error.errno})', 4) from None
 
 
 def plan_of(options):
