@@ -15,9 +15,14 @@ except ImportError:
     numpy = None  # type: ignore[assignment]
 
 
-class NoValue:
-    """A job without a value. Whatever takes it for one raises JobFailed with its line: arithmetic, order, truth, conversion."""
+class NoValue(dict):  # type: ignore[type-arg]
+    """A job without a value. Whatever takes it for one raises JobFailed with its line: arithmetic, order, truth, conversion, JSON.
+    It is a dict since `json` asks those alone for what is in them."""
     job: str
+
+    def __post_init__(self) -> None:
+        # An empty dict isn't asked.
+        super().__init__(answer=str(self))
 
     def failed(self, *_: object) -> NoReturn:
         """Raises the job's line."""
@@ -27,7 +32,8 @@ class NoValue:
     __add__ = __radd__ = __sub__ = __rsub__ = __mul__ = __rmul__ = __truediv__ = __rtruediv__ = __floordiv__ = failed
     __rfloordiv__ = __mod__ = __rmod__ = __pow__ = __rpow__ = __divmod__ = __rdivmod__ = __and__ = __rand__ = __or__ = failed
     __ror__ = __xor__ = __rxor__ = __lshift__ = __rlshift__ = __rshift__ = __rrshift__ = failed
-    __lt__ = __le__ = __gt__ = __ge__ = __getitem__ = __contains__ = __array__ = failed
+    __ior__ = __lt__ = __le__ = __gt__ = __ge__ = __getitem__ = __contains__ = __reversed__ = __array__ = failed
+    items = keys = values = get = failed  # type: ignore[assignment]
 
 
 @dataclass(frozen=True)
@@ -39,6 +45,9 @@ class Fault(NoValue):
     item: int | None
     job: str = field(default='', compare=False)
 
+    def __reduce__(self) -> tuple[Any, ...]:
+        return Fault, (self.kind, self.stage, self.item, self.job)
+
     def __str__(self) -> str:
         return f'fault {self.kind} stage {self.stage} item {"-" if self.item is None else self.item}'
 
@@ -48,6 +57,9 @@ class Unusable(NoValue):
     """A job that couldn't be run, since the job of this name, which it names, has no value."""
     name: str
     job: str = field(default='', compare=False)
+
+    def __reduce__(self) -> tuple[Any, ...]:
+        return Unusable, (self.name, self.job)
 
     def __str__(self) -> str:
         return f'unusable {self.name}'

@@ -2,11 +2,13 @@
 
 With WITHOUT=numpy,pandas these modules can't be imported, as where they aren't installed.
 """
+import copy
 import datetime
 import decimal
 import json
 import os
 import pathlib
+import pickle
 import stat
 import sys
 import tempfile
@@ -70,16 +72,20 @@ class Answers(unittest.TestCase):
         lines = ('fault = fault divide-by-zero stage 1 item 1', 'long = fault source-too-long stage 0 item -', 'after = unusable none')
         self.assertEqual(report.faults, {'fault': report['fault'], 'long': report['long'], 'after': report['after']})
         for use in (lambda it: it + 1, lambda it: 2 * it, bool, int, float, list, len, lambda it: it < 3, lambda it: 1 / it, lambda it: it[0],
-                    lambda it: -it, lambda it: sum([it])):
+                    lambda it: -it, lambda it: sum([it]), json.dumps, lambda it: json.dumps([it], default=str), lambda it: json.dumps({'a': it}, indent=2),
+                    dict, lambda it: it['kind']):
             with self.assertRaises(JobFailed) as failed:
                 use(report['fault'])
             self.assertEqual((failed.exception.lines, str(failed.exception)), (lines[:1], lines[0]))
-        with self.assertRaises(TypeError):
-            json.dumps(report['fault'])
         with self.assertRaises(JobFailed) as failed:
             report.check()
         self.assertEqual(failed.exception.lines, lines)
         self.assertEqual(run('a = of(1).sum()').check()['a'], 1)
+
+    def test_a_fault_is_copied_and_pickled_whole(self):
+        for answer in run(EACH_ANSWER).faults.values():
+            for made in (copy.deepcopy(answer), pickle.loads(pickle.dumps(answer))):
+                self.assertEqual((made, made.job, hash(made)), (answer, answer.job, hash(answer)))
 
     def test_numbers_are_exact_up_to_the_ends(self):
         report = run(f'a = of({MIN}, {MAX}, 9007199254740993).toArray()\nb = of({MAX}).sum()')
