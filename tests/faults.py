@@ -35,13 +35,16 @@ def compiler():
 
 
 class Faults:
-    def __init__(self, program, seconds=60):
-        self.program, self.seconds = program, seconds
+    def __init__(self, program, seconds=60, inside=None):
+        """inside: the folder for its files, if it isn't the usual one, which other users may not look into."""
+        self.program, self.seconds, self.inside = program, seconds, inside
         self.files = threading.local()
         self.written, self.lock = {}, threading.Lock()
 
     def __enter__(self):
-        self.folder = tempfile.TemporaryDirectory()
+        self.folder = tempfile.TemporaryDirectory(dir=self.inside)
+        if self.inside:
+            os.chmod(self.folder.name, 0o755)
         self.library = os.path.join(self.folder.name, 'faults.so')
         source = os.path.join(running.TESTS, 'faults.c')
         subprocess.run([compiler(), '-O2', '-shared', '-fPIC', '-o', self.library, source, '-ldl'], check=True)

@@ -2,6 +2,7 @@
 import argparse
 import collections
 import concurrent.futures
+import contextlib
 import functools
 import glob
 import os
@@ -9,6 +10,7 @@ import re
 import resource
 import shlex
 import shutil
+import stat
 import subprocess
 import sys
 import tempfile
@@ -24,6 +26,8 @@ NO_JOBS = b'streamrun: the job file has no job\n'
 OUT_OF_MEMORY = (b'', b'streamrun: out of memory\n', 3)
 KB, MB = 2 ** 10, 2 ** 20
 NOBODY = 65534
+# Folders for new files, of which at least one can be reached by every user.
+FOLDERS_OF_ALL = '/tmp', '/var/tmp', '/dev/shm'
 # The folders with job files that have a report or a refusal beside them.
 FOLDERS = ['examples', 'examples/gallery', 'examples/tables', 'examples/tutorial', 'tests/answers', 'tests/messages']
 
@@ -133,6 +137,27 @@ def sets(user=None, **limits):
             os.setgid(user)
             os.setuid(user)
     return limit
+
+
+def is_reached_by_all(folder):
+    """Whether every user can open what is in a folder, as far as the folders above it are concerned too."""
+    path = os.path.realpath(folder)
+    above = [path] + [path[:at] or '/' for at, sign in enumerate(path) if sign == '/']
+    return os.path.isdir(path) and all(os.stat(it).st_mode & stat.S_IXOTH for it in above)
+
+
+@contextlib.contextmanager
+def for_everyone(program):
+    """A new folder that every user can look into, and a copy of the program in it. The folder of the program may be closed to other
+    users, and the usual one for new files too."""
+    usual = tempfile.gettempdir()
+    chosen = next(filter(is_reached_by_all, (usual, *FOLDERS_OF_ALL)), usual)
+    os.umask(stat.S_IWGRP | stat.S_IWOTH)
+    with tempfile.TemporaryDirectory(dir=chosen) as folder:
+        os.chmod(folder, 0o755)
+        copied = shutil.copy(program, os.path.join(folder, 'streamrun'))
+        os.chmod(copied, 0o755)
+        yield folder, copied
 
 
 def run(command, limit=None, seconds=None, **more):

@@ -59,14 +59,3 @@ def outcome_in_time(seconds, *arguments):
         return None
     finally:
         signal.setitimer(signal.ITIMER_REAL, 0)
-
-
-def can_be_run_by_others(program, folder):
-    """Whether an unprivileged user may run a program over the files of a folder."""
-    path = os.path.realpath(program)
-    above = []
-    while path != '/':
-        above.append(path)
-        path = os.path.dirname(path)
-    os.chmod(folder, 0o755)
-    return all(os.stat(it).st_mode & 0o5 for it in above)
