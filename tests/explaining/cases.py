@@ -146,6 +146,7 @@ def wrong_commands():
                 ([good, '--columns', folder], ('', a_folder.format('columns'), 4))]:
             if run(*arguments) != wanted:
                 yield f'{arguments}: {run(*arguments)}'
+        yield from wrong_remarks(folder)
         view = (f'1 column, 1 row\n\n  a: text\n\nstreamrun --only-named --columns {table} JOBS\nNot read: a. Codes for texts: docs/tables.md.\n', '', 1)
         if run('--columns', table) != view or json.loads(run('--columns', table, '--json')[0])['columns'] != {'a': 'text'}:
             yield f'{run("--columns", table)}'
@@ -157,6 +158,16 @@ def wrong_commands():
         if list(second) != [*KEYS, 'row', 'name', 'cell'] or list(second.values())[6:] != [1, 'a', 'x']:
             yield f'{second}'
         yield from wrong_editors(bad)
+
+
+def wrong_remarks(folder):
+    """What is wrong with what is said of accepted files that may be meant otherwise."""
+    table = write(os.path.join(folder, 'priced.csv'), 'pr\u00eex,region\n1,2\n')
+    for number, (text, said) in enumerate(mistakes.REMARKS):
+        jobs = write(os.path.join(folder, f'remarks_{number}.jobs'), text)
+        wanted = ', but '.join(['accepted', *said])
+        if run(jobs, '--columns', table) != (f'{wanted}\n', '', 0) or run(jobs, '--columns', table, '--json') != ('{}\n', '', 0):
+            yield f'{text}: {run(jobs, "--columns", table)}'
 
 
 def wrong_editors(bad):

@@ -335,3 +335,14 @@ MISTAKES = [*WORDS, *BEGINS, *ARGUMENTS, *ENDS, *LAMBDAS, *MEANINGS, *ROWS]
 WITHOUT_TABLE = [('x = column(\u00a6"qty").sum()', ['--columns FILE'])]
 # Files that are no text, and the hint's words. The place is the first byte.
 FILES = [('x = of(1).sum()\n'.encode('utf-16'), ['UTF-16', 'iconv']), (b'\x1f\x8b\x08\0\0', ['gzip', 'zcat'])]
+
+# Files that are accepted, over a table of the columns pr\u00eex and region, with what is said of them besides.
+POWER = '^ is the exclusive or, and a power is a product, x * x'
+REMARKS = [
+    ('x = column("pr\u00eex").filter(region -> region == 1).count()', ['x: `region` is an item of "pr\u00eex" there, and not the column of that name']),
+    ('x = column("region").filter(region -> region == 1).count()', []),
+    ('x = of(3).map(region -> region * 2).sum()', []),
+    ('x = of(3).map(p -> p ^ 2).map(p -> 1 + (p ^ 3)).sum()', [f'x: {POWER}']),
+    ('x = of(3).map(p -> p ^ 9).sum()\ny = of(3).reduce(xor)', []),
+    ('x = of(3).map(p -> p ^ 2).sum()\ny = of(3).filter(p -> (p ^ 2) > 3).count()', [f'x: {POWER}; y: {POWER}']),
+]
