@@ -84,7 +84,7 @@ def opened(what, path, take):
         return take(path)
     except OSError as error:
         line = f'{what}: read failed' if isinstance(error, IsADirectoryError) else f'cannot open {what}'
-        raise Ended(f'streamrun: {line}\nstreamrun: {path}: {os.strerror(error.errno)} (os error {error.errno})', 4) from None
+        raise Ended(f'streamrun: {line}\nstreamrun: {error.filename}: {os.strerror(error.errno)} (os error {error.errno})', 4) from None
 
 
 def plan_of(options):
