@@ -33,7 +33,7 @@ use progress::Progress;
 use run_settings::Settings;
 use std::alloc::AllocError;
 use std::fs::File;
-use std::io::{ErrorKind, Read, Write};
+use std::io::{ErrorKind, Write};
 use std::process::ExitCode;
 use std::sync::Wait;
 use std::thread::Threads;
@@ -62,23 +62,24 @@ fn main(rt: HostRuntime) -> ExitCode {
     })
 }
 
-/// An open file, and its name.
-#[derive(Drop)]
-struct NamedFile {
-    name: String,
-    file: Counted<File>,
-}
-
 /// What a run is given: open files, and its settings.
 #[derive(Drop)]
 struct GivenFiles {
-    columns: Option<NamedFile>,
-    jobs: NamedFile,
+    columns: Option<Counted<File>>,
+    jobs: Counted<File>,
+    names: FileNames,
     settings: Settings,
     /// Whether a job without a value changes the exit status.
     fails: bool,
     /// What to say if one of the files is refused, by their names.
     doubt: Option<&'static str>,
+}
+
+/// The names of the files of a run, empty for a file that isn't there.
+#[derive(Drop)]
+struct FileNames {
+    columns: String,
+    jobs: String,
 }
 
 /// What a command line asks for.
@@ -142,7 +143,7 @@ fn opened_by(rt: &HostRuntime, arguments: &Arguments<'_>) -> Result<Asked, Alloc
     }
     let columns = match arguments.columns {
         Some(name) => match opened(rt, name, "columns")? {
-            Some(file) => Some(file),
+            Some(file) => Some(counted(file)),
             None => return Ok(Asked::End(FILE_FAILED)),
         },
         None => None,
@@ -150,7 +151,11 @@ fn opened_by(rt: &HostRuntime, arguments: &Arguments<'_>) -> Result<Asked, Alloc
     match opened(rt, arguments.jobs, "jobs")? {
         Some(jobs) => Ok(Asked::Run(GivenFiles {
             columns,
-            jobs,
+            jobs: counted(jobs),
+            names: FileNames {
+                columns: String::from_str(rt.alloc(), arguments.columns.unwrap_or(""))?,
+                jobs: String::from_str(rt.alloc(), arguments.jobs)?,
+            },
             settings,
             fails: arguments.fails,
             doubt: doubt_about(arguments.columns, arguments.jobs),
@@ -163,12 +168,9 @@ fn opened_by(rt: &HostRuntime, arguments: &Arguments<'_>) -> Result<Asked, Alloc
 }
 
 /// The open file of this name, or none after a line that says which file can't be opened, and one that says why.
-fn opened(rt: &HostRuntime, name: &str, which: &str) -> Result<Option<NamedFile>, AllocError> {
+fn opened(rt: &HostRuntime, name: &str, which: &str) -> Result<Option<File>, AllocError> {
     match fs::open(rt, path_of(name)) {
-        Ok(file) => Ok(Some(NamedFile {
-            name: String::from_str(rt.alloc(), name)?,
-            file: counted(file),
-        })),
+        Ok(file) => Ok(Some(file)),
         Err(error) if error.kind() == ErrorKind::OutOfMemory => Err(AllocError),
         Err(error) => {
             let _ = writeln!(rt.stderr(), "streamrun: cannot open {which}");
@@ -199,39 +201,35 @@ fn watched_run<H: Threads + Wait + Sync>(rt: &HostRuntime, threads: &H, given: G
         let GivenFiles {
             mut columns,
             mut jobs,
+            names,
             settings,
             fails,
             doubt,
         } = given;
         let mut writer = CountedOut::new(rt.stdout());
-        let table = match &mut columns {
-            Some(columns) => Some(&mut columns.file),
-            None => None,
-        };
         let status = ended_run(
             rt,
             threads,
-            table,
-            &mut jobs.file,
+            columns.as_mut(),
+            &mut jobs,
             &mut writer,
             &settings,
             progress,
         );
         if status == FILE_FAILED {
-            say_reason(rt, columns);
-            say_reason(rt, Some(jobs));
+            say_reason(rt, &names.columns, columns.as_mut());
+            say_reason(rt, &names.jobs, Some(&mut jobs));
         }
         say(rt, remark(status, progress.has_jobs(), doubt));
         status_with(status, fails && progress.lacks_value())
     })
 }
 
-/// Says why a file can't be read, if a read of it failed and the next one fails too.
-fn say_reason(rt: &HostRuntime, given: Option<NamedFile>) {
-    if let Some(NamedFile { name, file }) = given {
+/// Says why the file of this name can't be read, if a read of it failed and the next one fails too.
+fn say_reason(rt: &HostRuntime, name: &str, file: Option<&mut Counted<File>>) {
+    if let Some(file) = file {
         if file.failures() > 0 {
-            let read = file.into_inner().read(&mut [0]);
-            if let Err(error) = read {
+            if let Err(error) = file.read_some(&mut [0]) {
                 if error.kind() != ErrorKind::Interrupted {
                     let _ = writeln!(rt.stderr(), "streamrun: {name}: {error}");
                 }
