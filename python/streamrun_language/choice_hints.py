@@ -76,7 +76,7 @@ def between_hint(site: Site) -> str:
 
 def not_hint(site: Site) -> str:
     """What to write for `not` before a condition."""
-    end = end_of(site, site.index - 1)
+    end = end_of(site, site.index - 1, (*SIDES, 'and', 'or'))
     condition = text(site, site.index, end)
     inner = condition if re.fullmatch(r'\(.*\)', condition) else f'({condition})'
     return f'The opposite is written with !: {instead("!" + inner, text(site, site.index - 1, end))}.'

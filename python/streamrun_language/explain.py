@@ -15,6 +15,7 @@ from typing import Any, Dict, FrozenSet, Iterable, List, Optional, Tuple
 from .begin_hints import STRUCTURE
 from .calculations import CALCULATIONS
 from .choice_hints import CHOICE_RULES
+from .expressions import Call
 from .following import added_lines, followed, language_after
 from .job_hints import ENDS, PARTS
 from .jobs import Job, read_each
@@ -125,7 +126,9 @@ def goes_on(data: bytes, site: Site, hint: str, newest: int) -> bool:
         line = site.job.line + added_lines(data, hint)
         # What comes after an operation that is left out stands where it stood.
         is_left_out = ' leave `.' in hint and len(refused.job.text) - refused.refused.at < len(site.job.text) - site.refused.at
-        return refused.job.line == line and is_left_out or (refused.job.line, refused.refused.at) > (line, site.refused.at)
+        # A method that isn't there is found after the grammar.
+        is_named = site.refused.cause in (Cause.SYNTAX, Cause.EXPRESSION_SYNTAX) and isinstance(refused.refused.about, Call)
+        return refused.job.line == line and (is_left_out or is_named) or (refused.job.line, refused.refused.at) > (line, site.refused.at)
 
 
 def rule_of(data: bytes, site: Site, newest: int) -> Rule:

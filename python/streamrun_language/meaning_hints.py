@@ -60,7 +60,9 @@ def quotient_hint(operand: str, name: str) -> Optional[str]:
     found = re.fullmatch(r'(.+?)\s*/\s*(\d+)', operand)
     if not found or name not in ('Math.round', 'Math.ceil') or '(' in found[2]:
         return None
-    value, by = grouped(found[1]), int(found[2])
+    if grouped(found[1]) != found[1]:
+        return None
+    value, by = found[1], int(found[2])
     return f'Math.floorDiv(2 * {value} + {by}, {2 * by})' if name == 'Math.round' else f'-Math.floorDiv(-{value}, {by})'
 
 

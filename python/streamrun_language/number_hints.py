@@ -6,7 +6,7 @@ from datetime import date
 from fractions import Fraction
 from typing import NamedTuple, Optional
 
-from .operands import RELATIONS, SIDES, TERMS, end_of, grouped, instead, is_in_lambda, operand_end, start_of, text
+from .operands import RELATIONS, SIDES, TERMS, closing, end_of, grouped, instead, is_in_lambda, operand_end, start_of, text
 from .refusals import Cause
 from .site import Rule, Site
 from .tokens import Kind
@@ -47,7 +47,7 @@ def in_comparison(site: Site, it: Literal) -> str:
         start = start_of(site, it.first - 1)
         left = grouped(text(site, start, it.first - 2))
         return instead(f'{left} * {times} {before} {number}', text(site, start, it.last))
-    if after in RELATIONS:
+    if after in RELATIONS and before in (*SIDES, '('):
         end = end_of(site, it.last + 1)
         right = grouped(text(site, it.last + 2, end))
         return instead(f'{number} {after} {right} * {times}', text(site, it.first, end))
@@ -60,14 +60,45 @@ def in_product(site: Site, it: Literal) -> str:
     up, down = it.value.numerator, it.value.denominator
     if before in ('*', '/'):
         up, down = (up, down) if before == '*' else (down, up)
-        start = start_of(site, it.first - 1, TERMS)
-        factor = f' * {up}' if up != 1 else ''
-        return instead(f'{text(site, start, it.first - 2)}{factor} / {down}', text(site, start, it.last))
-    if after == '*':
-        end = operand_end(site, it.last + 2)
-        factor = f' * {up}' if up != 1 else ''
-        return instead(f'{text(site, it.last + 2, end)}{factor} / {down}', text(site, it.first, end))
+        first, last = start_of(site, it.first - 1, TERMS), it.last
+        factor = text(site, first, it.first - 2)
+    elif after == '*':
+        first, last = it.first, operand_end(site, it.last + 2)
+        factor = text(site, it.last + 2, last)
+    else:
+        return ''
+    product = f'{factor} * {up}' if up != 1 else factor
+    return compared_product(site, first, last, product, down) if is_compared(site, first, last) else instead(
+        f'{product} / {down}', text(site, first, last))
+
+
+def is_compared(site: Site, first: int, last: int) -> bool:
+    """Whether the texts from one token to another are in a side of a comparison, perhaps in parentheses there."""
+    begin, end = start_of(site, first), end_of(site, last)
+    if any(site.tokens[at].text in RELATIONS for at in [*range(begin, first), *range(last + 1, end + 1)]):
+        return True
+    depth, at = 0, first - 1
+    while at > 0 and site.tokens[at].text != '->' and not (depth == 0 and site.tokens[at].text == '('):
+        depth += (site.tokens[at].text == ')') - (site.tokens[at].text == '(')
+        at -= 1
+    return at > 0 and site.tokens[at].text == '(' and is_compared(site, at, closing(site, at))
+
+
+def compared_product(site: Site, first: int, last: int, product: str, down: int) -> str:
+    """What to write for a comparison of which one side is a product, to be divided: the other side is multiplied, since a quotient
+    is rounded. Nothing if the side has more than the product."""
+    begin, end = start_of(site, first), end_of(site, last)
+    after = site.tokens[last + 1].text if last < end else ''
+    if first == begin and after in RELATIONS:
+        return instead(f'{product} {after} {times(text(site, last + 2, end), down)}', text(site, first, end))
+    if last == end and site.tokens[first - 1].text in RELATIONS:
+        return instead(f'{times(text(site, begin, first - 2), down)} {site.tokens[first - 1].text} {product}', text(site, begin, last))
     return ''
+
+
+def times(part: str, factor: int) -> str:
+    """A product with a number, for which nothing is written if it is 1."""
+    return f'{grouped(part)} * {factor}' if factor != 1 else part
 
 
 def literal_hint(site: Site) -> str:
@@ -78,7 +109,8 @@ def literal_hint(site: Site) -> str:
     if site.refused.cause is not Cause.EXPRESSION_SYNTAX:
         return f'Numbers are integers: {SMALLER}'
     cure = in_comparison(site, it) or in_product(site, it)
-    equal = f'{it.text} is {it.value.numerator} / {it.value.denominator}, so {cure}, or ' if cure else ''
+    rounds = ', where / rounds toward zero' if ' / ' in cure else ''
+    equal = f'{it.text} is {it.value.numerator} / {it.value.denominator}, so {cure}{rounds}, or ' if cure else ''
     return f'Numbers are integers: {equal}{SMALLER}'
 
 

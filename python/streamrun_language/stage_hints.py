@@ -10,7 +10,7 @@ from .model import answers_of
 from .operands import asked_for, call_at, closing, instead, opening, source_name, text, without
 from .refusals import Refused
 from .site import Site
-from .stage_words import BY_MILLER, DOWN, FIRST, ORDERS, PAGES, RANKS, STAGES, UP
+from .stage_words import BY_MILLER, DOWN, FIRST, GROUPS, ORDERS, PAGES, RANKS, STAGES, UP
 from .syntax import LATER_STAGES
 from .tokens import Kind
 from .walks import length_of, parts_of
@@ -61,7 +61,7 @@ def by_place(site: Site, at: int, operands: List[str]) -> Optional[str]:
     if word in SLICE and len(numbers) == 2:
         return f'.skip({numbers[0]}).limit({numbers[1] - numbers[0]})'
     rows = items_before(site, at - 1) if word in (*LAST, *WITHOUT_LAST) else None
-    if rows is None or len(numbers) > 1:
+    if rows is None or len(numbers) > 1 or not numbers and word != 'init':
         return None
     count = max(rows - (numbers or [1])[0], 0)
     return f'.skip({count})' if word in LAST else f'.limit({count})'
@@ -96,10 +96,13 @@ def written(site: Site, at: int) -> Optional[str]:
     placed = (by_order if word in ORDERS else by_rank if word in RANKS else by_place)(site, at, operands)
     if placed is not None or word not in STAGES or STAGES[word] == '.distinct()' and operands:
         return placed
+    if word in ('clip', 'clamp') and len(operands) == 1 and re.fullmatch(r'-?\d+', operands[0]):
+        return f'.map(x -> Math.max(x, {operands[0]}))'
     if word == 'isin' or re.search(r'\{1\}', STAGES[word]) and len(operands) < 2 or '{0}' in STAGES[word] and not operands:
         return None
     name, body = parts_of_lambda(operands[0] if operands else '')
-    return (STAGES[word].replace('{all}', ', '.join(operands)).replace('{not}', f'{name} -> !({body})')
+    stage = STAGES['where'] if word == 'select' and re.search('[<>=]', body) else STAGES[word]
+    return (stage.replace('{all}', ', '.join(operands)).replace('{not}', f'{name} -> !({body})')
             .replace('{0}', (operands or [''])[0]).replace('{1}', (operands + ['', ''])[1]))
 
 
@@ -111,6 +114,10 @@ def end_at(site: Site, at: int) -> int:
 def by_miller(site: Site, word: str, operands: List[str]) -> str:
     """The command of Miller for an operation, or the page that has others."""
     column, first = source_name(site), (operands or ['3'])[0]
+    if word in GROUPS and column and column_of(first) in (site.columns or ()):
+        after = site.tokens[closing(site, site.index + 1) + 2:][:1]
+        what = after[0].text if after and after[0].text in ('count', 'min', 'max', 'mean') else 'sum'
+        return f'Miller has it, `mlr --icsv --opprint stats1 -a {what} -f {column} -g {column_of(first)} FILE`, docs/tables.md'
     column = column_of(first) if word in ORDERS else column
     if not column or not re.fullmatch(r'\d*\.?\d+', first):
         first = first if re.fullmatch(r'\d*\.?\d+', first) else '3'

@@ -51,8 +51,9 @@ STAGES = {
     **dict.fromkeys(('sortedDescending', 'sortDescending', 'sortDesc', 'orderByDescending', 'orderByDesc'), DOWN),
     # What integers don't need.
     **dict.fromkeys(('boxed', 'parallel', 'sequential', 'unordered', 'asLongStream', 'stream', 'onClose', 'close', 'asDoubleStream',
-                     'fillna', 'dropna', 'astype', 'toLong', 'longValue', 'intValue', 'nonNull', 'peek', 'compute', 'values'), ''),
+                     'round', 'floor', 'ceil', 'trunc', 'fillna', 'dropna', 'astype', 'toLong', 'longValue', 'intValue', 'nonNull', 'peek', 'compute', 'values'), ''),
 }
+GROUPS = ('groupBy', 'groupby', 'group_by')
 # What Miller does, by the column and the first operand.
 STATISTIC = 'mlr --icsv --opprint stats1 -a {what} -f {column} FILE'
 TABLE = 'mlr --csv {what} FILE'
@@ -76,6 +77,7 @@ BY_MILLER = {
 PAGES = {'zip': 'cell("NAME") for another cell of the row, docs/job-language.md', 'join': 'docs/tables.md', 'merge': 'docs/tables.md',
          'indexOf': 'docs/recipes.md', 'rank': 'docs/tables.md', 'partition': 'docs/tables.md', 'pivot': 'docs/tables.md',
          'corr': 'docs/tables.md', 'average': 'docs/recipes.md', 'mean': 'docs/recipes.md', 'avg': 'docs/recipes.md', 'iterate': 'docs/recipes.md', 'summaryStatistics': 'docs/recipes.md',
+         **dict.fromkeys(('tail', 'takeLast', 'dropLast'), '.skip(N), which leaves the first N items out, docs/job-language.md'),
          'mapMulti': 'docs/job-language.md', **dict.fromkeys((*ORDERS, 'distinct', 'unique'), 'docs/tables.md'),
          **dict.fromkeys(RANKS, '.sorted().skip(N).findFirst() of version 3, with N items before it, docs/recipes.md'),
          **dict.fromkeys(('top', 'topN', 'nlargest', 'nsmallest'), 'docs/recipes.md')}

@@ -17,6 +17,9 @@ NUMBERS = [
     ('x = of(11900).map(g -> g / 1\u00a6.19).sum()', 'x = 10000'),
     ('x = column("price").map(p -> p / 2\u00a6.0).sum()', 'x = 887'),
     ('x = of(2, 3, 4).filter(p -> p > 2\u00a6.75).count()', 'x = 2'),
+    ('x = of(20, 5).filter(p -> p / 2\u00a6.5 > 3).count()', 'x = 1'),
+    ('x = of(201, 200).filter(p -> 1\u00a6.5 * p > 301).count()', 'x = 1'),
+    ('x = of(201, 200).filter(p -> p > 3 && 301 < p * 1\u00a6.5).count()', 'x = 1'),
     ('x = of(5000).map(x -> x * 1\u00a6e-3).sum()', 'x = 5'),
     ('x = of(3).map(x -> x * 2\u00a6d).sum()', 'x = 6'),
     ('x = of(4).map(x -> x * 2\u00a6.5f).sum()', 'x = 10'),
@@ -104,6 +107,7 @@ LAMBDAS = [
     ('x = column("price").filter(p -> p == 100 \u00a6|| 200).count()', 'x = 2'),
     ('x = column("price").filter(p -> p > 100 \u00a6and p < 400).count()', 'x = 3'),
     ('x = column("price").filter(p -> not \u00a6p > 100).count()', 'x = 1'),
+    ('x = of(7).map(v -> \u00a6Math.round(v + 1 / 3)).sum()', 'x = 7'),
     ('x = column("price").map(p -> if\u00a6 (p > 100) 1 else 0).sum()'.replace('if\u00a6 (', 'if \u00a6('), 'x = 5'),
     ('x = column("price").map(p -> 1 \u00a6if p > 100 else 0).sum()', 'x = 5'),
     ('x = column("price").map(p -> if \u00a6p > 100 then 1 else 0).sum()', 'x = 5'),
@@ -200,6 +204,9 @@ ENDS = [
     ('x = column("price").\u00a6fillna(0).sum()', 'x = 1775'),
     ('x = column("qty").\u00a6abs().sum()', 'x = 26'),
     ('x = column("price").\u00a6clip(150, 300).sum()', 'x = 1525'),
+    ('x = column("price").\u00a6clip(250).sum()', 'x = 1975'),
+    ('x = column("price").\u00a6round(2).sum()', 'x = 1775'),
+    ('x = column("price").\u00a6select(p -> p > 100).count()', 'x = 5'),
     ('x = column("price").\u00a6isin([100, 200]).count()', 'x = 2'),
     ('x = column("price").\u00a6between(100, 200).count()', 'x = 2'),
     ('x = column("price").count(\u00a6p -> p > 100)', 'x = 5'),
@@ -245,6 +252,15 @@ ORDERS = [
     ('x = column("price").\u00a6top(3)', 'x = [500, 400, 300]'),
     ('x = column("price").\u00a6nsmallest(2).sum()', 'x = 300'),
 ]
+# Tries with several mistakes, and the report after one hint after another.
+IN_TURN = [
+    ('x = of(5).map(v -> Math.round(v * 1\u00a6.5)).sum()', 'x = 8'),
+    ('x = of(149, 150).map(v -> Math.round(v / 100\u00a6.0)).sum()', 'x = 3'),
+    ('x = column("price").filter(p -> not \u00a6p > 100 and p < 500).count()', 'x = 1'),
+    ('x = column("price").filter(p -> p >= 200 \u00a6and <= 300).count()', 'x = 3'),
+    ('x = column("price").\u00a6select(p -> p between 100 and 300 and p != 200).sum()', 'x = 675'),
+    ('x = column("qty").filter(q -> q \u00a6in (4, 10) or q == 3 or q == 99).count()', 'x = 3'),
+]
 FOLLOWED = [*NUMBERS, *CALCULATIONS, *LAMBDAS, *BEGINS, *ENDS, *ROWS, *ORDERS]
 
 # Commands of the hint, each with what is in the last line that it prints over the table; the numbers are worked out by hand.
@@ -261,10 +277,14 @@ COMMANDS = [
     ('x = column("price").\u00a6sort_values("qty", ascending=False).limit(2).toArray()', ['2,20240130,100,-1']),
     ('x = column("price").\u00a6argmax()', ['4,20240201,500,10']),
     ('x = column("price").\u00a6groupBy(p -> p)', ['275,1']),
+    ('x = column("price").\u00a6groupby("qty").max()', ['6', '275']),
 ]
 # The page that the hint names, since no text of the file is right.
 PAGES = [
     ('x = of(3).map(x -> x + 0\u00a6.5).sum()', 'docs/tables.md'),
+    ('x = of(7).filter(p -> (p * 0\u00a6.5) > 3).count()', 'docs/tables.md'),
+    ('x = of(4).filter(p -> p - 0\u00a6.5 > 3).count()', 'docs/tables.md'),
+    ('x = column("price").\u00a6tail().sum()', 'docs/job-language.md'),
     ('x = column("price").map((p\u00a6, q) -> p * q).sum()', 'docs/job-language.md'),
     ('x = column("price"\u00a6, "qty").sum()', 'docs/job-language.md'),
     ('x = column("price").\u00a6zip(column("qty")).sum()', 'docs/job-language.md'),

@@ -122,11 +122,15 @@ def all_first_tries():
     return [(row, first_tries.TABLE) for row in rows]
 
 
-def wrong_first_tries(rows=None):
-    """What is wrong with first tries whose hint proposes a text: it is put in, accepted, and gives the report."""
+def wrong_first_tries(rows=None, rounds=1):
+    """What is wrong with first tries whose hint proposes a text: it is put in, accepted, and gives the report; in more rounds with the
+    texts of further hints."""
     for typed, report in first_tries.FOLLOWED if rows is None else rows:
         found, is_placed = explained(typed)
         made = found and found.followed
+        for _ in range(1, rounds):
+            next_one = made and explain.explain_jobs(made, first_tries.TABLE, newest=found.language)
+            found, made = (next_one, next_one.followed) if next_one else (found, made)
         got = made and model.outcome(made, first_tries.TABLE, newest=found.language)
         if not is_placed or not got or got != (f'{report}\n'.encode(), b'', 0):
             yield f'{typed!r}: {found} {made!r} {got}'
