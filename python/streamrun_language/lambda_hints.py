@@ -2,12 +2,12 @@
 from __future__ import annotations
 
 import re
-from typing import Tuple
+from typing import Collection, Tuple
 
 from . import java_words
 from .choice_hints import bare_lambda, half_side, number_or_other
 from .lambdas import RESERVED, STREAMS
-from .operands import TERMS, call_at, closing, instead, operand_end, start_of, text, without
+from .operands import TERMS, call_at, closing, instead, opening, operand_end, start_of, text, without
 from .refusals import Wanted
 from .row_hints import OTHER_CELL
 from .site import Rule, Site
@@ -38,7 +38,7 @@ def is_cast(site: Site) -> bool:
 
 def value_before(site: Site) -> str:
     """The operand that ends before the place."""
-    return site.word(-1) if site.kind(-1) in (Kind.NAME, Kind.REFERENCE) else 'x'
+    return site.word(-1) if site.kind(-1) in (Kind.NAME, Kind.REFERENCE) else text(site, opening(site, site.index - 1) + 1, site.index - 2) or 'x'
 
 
 def method_hint(site: Site) -> str:
@@ -52,7 +52,8 @@ def method_hint(site: Site) -> str:
     if method not in CALLS:
         return 'A value has no methods: those of Math and Long are called as Math.abs(x).'
     operands = ', '.join([value, *(call_at(site, site.index + 2)[1] if site.word(2) == '(' else [])])
-    return f'A value has no methods: {instead(f"{method}({operands})", text(site, site.index - 1, end))}.'
+    first = opening(site, site.index - 1) if site.word(-1) == ')' else site.index - 1
+    return f'A value has no methods: {instead(f"{method}({operands})", text(site, first, end))}.'
 
 
 def call_hint(site: Site) -> str:
@@ -142,24 +143,28 @@ def equality(site: Site) -> Tuple[str, str]:
     return before or '==', before + '='
 
 
-def pair_around(site: Site) -> Tuple[str, str, str]:
-    """The operands of an operator of two signs, the second one at the place, and the whole text."""
-    start, end = start_of(site, site.index - 1, (*TERMS, '*', '/', '%')), operand_end(site, min(site.index + 1, len(site.tokens) - 1))
-    return text(site, start, site.index - 2), text(site, site.index + 1, end), text(site, start, end)
+def pair_around(site: Site, bounds: Collection[str]) -> Tuple[int, int]:
+    """The first and the last token around an operator of two signs, the second one at the place, back to one of the bounds."""
+    return start_of(site, site.index - 1, bounds), operand_end(site, min(site.index + 1, len(site.tokens) - 1))
 
 
 def power_hint(site: Site) -> str:
     """What to write for a power."""
-    base, exponent, old = pair_around(site)
-    if not re.fullmatch('[2-5]', exponent):
+    first, last = pair_around(site, (*TERMS, '*', '/', '%'))
+    base, exponent = text(site, first, site.index - 2), text(site, site.index + 1, last)
+    if not re.fullmatch('[2-5]', exponent) or text(site, last + 1, last + 2) == '**':
         return 'There is no power: a product is written out, x * x.'
-    return f'There is no power: {instead(" * ".join([base] * int(exponent)), old)}.'
+    product = ' * '.join([base] * int(exponent))
+    product = f'({product})' if site.tokens[first - 1].text in ('/', '%') else product
+    return f'There is no power: {instead(product, text(site, first, last))}.'
 
 
 def floor_hint(site: Site) -> str:
     """What to write for a quotient that is rounded down."""
-    first, second, old = pair_around(site)
-    return f'The quotient that is rounded down is a method: {instead(f"Math.floorDiv({first}, {second})", old)}.'
+    first, last = pair_around(site, TERMS)
+    first -= first > 1 and site.tokens[first - 1].text == '-' and site.tokens[first - 2].text in (*TERMS, '(')
+    made = f'Math.floorDiv({text(site, first, site.index - 2)}, {text(site, site.index + 1, last)})'
+    return f'The quotient that is rounded down is a method: {instead(made, text(site, first, last))}.'
 
 
 EXPRESSIONS = [

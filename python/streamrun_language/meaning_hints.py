@@ -9,7 +9,7 @@ from . import expressions as e
 from . import java_words
 from .jobs import MOST_BYTES, MOST_JOBS, MOST_NAME, MOST_SOURCES, MOST_STAGES, MOST_VALUES
 from .lambdas import MOST_INNER_VALUES, Lambda
-from .operands import call_at, closing, grouped, index_at, instead, parameter_of, text, without
+from .operands import call_at, closing, grouped, in_place_of, index_at, instead, parameter_of, text, without
 from .operators import EXACT, METHODS, OPERATORS
 from .refusals import Cause
 from .row_hints import OTHER_CELL, other_cell
@@ -70,17 +70,18 @@ def call_hint(site: Site) -> str:
     """What to write for a method that isn't there."""
     name, at = site.about.name, index_at(site, site.about.at)
     old, operands = call_at(site, at + 3)
+    last = closing(site, at + 3)
     if name in ('Math.round', 'Math.floor', 'Math.ceil') and len(operands) == 1:
-        cure = quotient_hint(operands[0], name) or operands[0]
+        cure = in_place_of(site, at, last, quotient_hint(operands[0], name) or operands[0])
         more = f', and Math.floorDiv rounds down below zero too' if name == 'Math.floor' else ''
         return f'`/` rounds toward zero by itself: {instead(cure, old)}{more}.'
     if name == 'Math.pow' and len(operands) == 2 and re.fullmatch('[2-5]', operands[1]):
-        return f'There is no {name}: {instead(" * ".join([grouped(operands[0])] * int(operands[1])), old)}.'
+        return f'There is no {name}: {instead(in_place_of(site, at, last, " * ".join([grouped(operands[0])] * int(operands[1]))), old)}.'
     if name in java_words.WITHOUT_EXPRESSION:
         return f'There is no {name}: {java_words.WITHOUT_EXPRESSION[name]}.'
     if name in java_words.METHODS:
         parts = [*(grouped(it) for it in operands), 'y', 'z', 'z']
-        cure = java_words.METHODS[name].format(*parts)
+        cure = in_place_of(site, at, last, java_words.METHODS[name].format(*parts))
         return f'There is no {name}: {instead(cure, old)}.'
     members = {it.split('.')[1]: it for it in reversed(list(CALLS))}
     other = members.get(nearest(name.split('.')[1], list(members)))

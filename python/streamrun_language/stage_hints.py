@@ -52,6 +52,9 @@ def by_place(site: Site, at: int, operands: List[str]) -> Optional[str]:
     if not all(re.fullmatch(r'-?\d+', it) for it in operands):
         return None
     numbers = list(map(int, operands))
+    if word in PLACE and len(numbers) == 1 and numbers[0] < -1:
+        rows = items_before(site, at - 1)
+        return None if rows is None or rows + numbers[0] < 0 else f'.skip({rows + numbers[0]}){FIRST}'
     if word in PLACE and len(numbers) == 1:
         return FIRST if numbers == [0] else '.reduce(last)' if numbers == [-1] else f'.skip({numbers[0]}){FIRST}'
     if word in ('first', 'last') and not numbers:
@@ -182,6 +185,8 @@ def brackets(site: Site) -> str:
         start = opening(site, site.index - 1) - 2
     old = text(site, start, end)
     one, many = re.fullmatch(r'-?\d+', inner), re.fullmatch(r'(\d*)\s*:\s*(\d*)', inner)
+    if one and int(inner) < -1:
+        return ''
     if one:
         return instead(FIRST if inner == '0' else '.reduce(last)' if inner == '-1' else f'.skip({inner}){FIRST}', old)
     if many and start == site.index:

@@ -112,6 +112,7 @@ BYTES = [
 ]
 
 WORD_RULES = [
+    Rule('is not', lambda s: s.word() == 'is' and s.word(1) == 'not', lambda s: f'Operators are signs: {instead("!=", "is not")}.'),
     Rule('word for an operator', word_at, lambda s: f'Operators are signs: {instead(WORDS[word_at(s).lower()], word_at(s))}.'),
     Rule('semicolon', lambda s: s.word() == ';', f'A semicolon stands at the end of a job alone: {without(";")} here.'),
 ]
