@@ -5,13 +5,14 @@ import re
 from typing import List, Tuple
 
 from . import java_words
-from .operands import RELATIONS, SIDES, call_at, closing, end_of, instead, operand_end, start_of, text, without
+from .operands import RELATIONS, SIDES, call_at, closing, end_of, in_place_of, instead, operand_end, start_of, text, without
 from .refusals import Wanted
 from .site import Rule, Site
 from .tokens import Kind
 
 # Operators that other languages join with =, and after which a comparison may lack its left side.
 ASSIGNED, BEFORE_SIDES = ('+', '-', '*', '/', '%', '&', '|', '^', '<<', '>>', '>>>'), ('&&', '||', '->')
+WORDS_OF_SIDES = {'or': '||', 'and': '&&'}
 CHOICES = ('if', 'then', 'else', 'elif', 'when', 'case')
 FORMS = [r'(?:case\s+when|if)\s+(?P<c>.+?)\s+then\s+(?P<a>.+?)\s+else\s+(?P<b>.+?)(\s+end)?',
          r'if\s*\((?P<c>.+?)\)\s*(?P<a>.+?)\s*;?\s+else\s+(?P<b>.+)', r'(?P<a>.+?)\s+if\s+(?P<c>.+?)\s+else\s+(?P<b>.+)']
@@ -58,7 +59,7 @@ def in_hint(site: Site) -> str:
     start, at = start_of(site, site.index, SIDES), site.index + 1 + negated
     value, parts = text(site, start, site.index - 1), call_at(site, at)[1]
     sign, join = ('!=', ' && ') if negated else ('==', ' || ')
-    cure = join.join(f'{value} {sign} {part}' for part in parts)
+    cure = in_place_of(site, start, closing(site, at), join.join(f'{value} {sign} {part}' for part in parts))
     return f'Values are compared one by one: {instead(cure, text(site, start, closing(site, at)))}.'
 
 
@@ -100,17 +101,25 @@ def value_method(site: Site) -> str:
     return instead(form.format(value, *parts), old) if old and form else ''
 
 
+def bare_text(site: Site) -> str:
+    """The argument around the place, or before it if it ends there."""
+    at = site.open_at()
+    return text(site, at + 1, site.index - 1) if at and site.word() == ')' else site.argument()
+
+
 def bare_lambda(site: Site) -> str:
     """A lambda with its head, for one that has an expression alone, or has another head; nothing if it can't be made."""
-    argument = site.argument()
+    argument = bare_text(site)
     bars = re.fullmatch(r'\|\s*(\w+)\s*\|\s*(.+)', argument) or re.fullmatch(r'lambda\s+(\w+)\s*:\s*(.+)', argument)
     if bars:
         return f'{bars[1]} -> {bars[2]}'
     if re.fullmatch(r'-?\d+', argument) and site.inside() in ('anyMatch', 'allMatch', 'noneMatch', 'filter'):
         return f'x -> x == {argument}'
-    if re.match(r'(==|!=|<=?|>=?|%)', argument):
+    if re.match(r'(==|!=|<=?|>=?|[%*/]|[+] ?[\w(]|[-&|^] )', argument):
         return f'x -> x {argument}'
-    method = re.fullmatch(r'(Math|Long)::(\w+)', argument)
+    if re.fullmatch(r'\w+|-\d+', argument):
+        return ''
+    method = re.fullmatch(r'(Math|Long)(?:::|\.)(\w+)', argument)
     if method:
         return f'x -> {method[1]}.{method[2]}(x)'
     if '::' in argument or '->' in argument or '=>' in argument or '"' in argument:
@@ -156,7 +165,8 @@ def is_number(part: str) -> bool:
 def like_before(site: Site, value: str) -> str:
     """A comparison of another value, by the sign and a side of the comparison before the place; nothing if there is none."""
     left, sign, right = comparison_before(site, site.index)
-    is_other = sign and value not in (left, right)
+    is_meant = (sign, WORDS_OF_SIDES.get(site.word().lower(), site.word())) not in (('!=', '||'), ('==', '&&'))
+    is_other = sign and is_meant and value not in (left, right)
     return is_other and (f'{value} {sign} {right}' if is_number(left) else f'{left} {sign} {value}') or ''
 
 
@@ -178,7 +188,7 @@ def half_comparison(site: Site) -> str:
 
 def half_side(site: Site) -> str:
     """What to write for a number beside `or` or `and`, after a comparison; nothing for others."""
-    sign, end = {'or': '||', 'and': '&&'}.get(site.word().lower(), ''), end_of(site, site.index)
+    sign, end = WORDS_OF_SIDES.get(site.word().lower(), ''), end_of(site, site.index)
     made = like_before(site, text(site, site.index + 1, end)) if sign else ''
     return made and instead(f'{sign} {made}', text(site, site.index, end))
 

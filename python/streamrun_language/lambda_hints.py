@@ -5,7 +5,7 @@ import re
 from typing import Collection, Tuple
 
 from . import java_words
-from .choice_hints import bare_lambda, half_side, number_or_other
+from .choice_hints import bare_lambda, bare_text, half_side, number_or_other
 from .lambdas import RESERVED, STREAMS
 from .operands import TERMS, call_at, closing, instead, opening, operand_end, start_of, text, without
 from .refusals import Wanted
@@ -79,9 +79,10 @@ def head_hint(site: Site) -> str:
         return f'The arrow of a lambda is written ->: {instead("->", "=>")}.'
     if site.kind() is Kind.STRING:
         return f'A lambda stands without quotes: {instead(site.word()[1:-1], site.word())}.'
-    made = bare_lambda(site)
+    made, argument = bare_lambda(site), bare_text(site)
+    made = f'x -> {method_of(argument)}(x)' if CALLS.get(method_of(argument)) and CALLS[method_of(argument)].count == 1 else made
     if made:
-        return f'A lambda is a parameter, -> and an expression: {instead(made, site.argument())}.'
+        return f'A lambda is a parameter, -> and an expression: {instead(made, argument)}.'
     return 'A lambda is a parameter, -> and an expression: x -> x * 2.'
 
 

@@ -102,11 +102,12 @@ def grouped(part: str) -> str:
 def in_place_of(site: Site, first: int, last: int, cure: str) -> str:
     """What is written for the tokens from one to another: in parentheses, if it has an operator and one stands beside them."""
     before, after = (site.tokens[at].text if 0 <= at < len(site.tokens) else '' for at in (first - 1, last + 1))
-    depth, has_operator = 0, False
+    depth, has_operator, bounds = 0, False, SIDES
     for token in cut(cure.encode()):
         depth += (token.text == '(') - (token.text == ')')
         has_operator |= depth == 0 and token.text in (*TERMS, '*', '/', '%', '?')
-    is_alone = before in (*SIDES, '(') and after in (*SIDES, ')', '')
+        bounds = ('->', ',') if depth == 0 and token.text in ('||', '?') else bounds
+    is_alone = before in (*bounds, '(') and after in (*bounds, ')', '')
     return f'({cure})' if has_operator and not is_alone else cure
 
 

@@ -7,7 +7,7 @@ from typing import List, Optional
 from . import expressions as e
 from .choice_hints import like_before, number_or_other
 from .lambdas import Want
-from .operands import RELATIONS, TERMS, closing, end_of, instead, opening, operand_end, start_of, text, without
+from .operands import RELATIONS, SIDES, TERMS, closing, end_of, instead, opening, operand_end, start_of, text, without
 from .site import Rule, Site
 from .values import CALLS
 
@@ -89,7 +89,11 @@ def not_hint(site: Site) -> str:
     if tail in RELATIONS:
         whole = text(site, site.index + 1, end_of(site, site.index))
         return f'! stands before a condition: {instead(f"!({whole})", "!" + whole)}.'
-    inner = inner[1:-1] if inner.startswith('(') else inner
+    if tail in (*TERMS, '*', '/', '%') and tail not in SIDES:
+        end = end_of(site, site.index)
+        inner = text(site, site.index + 1, end)
+    elif inner.startswith('('):
+        inner = inner[1:-1]
     return f'! stands before a condition: {instead(f"{bits(inner)} == 0", text(site, site.index, end))}.'
 
 

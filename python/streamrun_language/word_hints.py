@@ -4,7 +4,7 @@ from __future__ import annotations
 import re
 from typing import Tuple
 
-from .operands import instead, is_in_lambda, start_of, text, without
+from .operands import in_place_of, instead, is_in_lambda, start_of, text, without
 from .refusals import Wanted
 from .site import Rule, Site
 from .stage_hints import brackets
@@ -61,7 +61,7 @@ def list_hint(site: Site) -> str:
     end = next((at for at in range(site.index, len(site.tokens)) if site.tokens[at].text == ']'), site.index)
     value, parts = text(site, start, site.index - 2 - negated), text(site, site.index + 1, end - 1).split(',')
     sign, join = ('!=', ' && ') if negated else ('==', ' || ')
-    cure = join.join(f'{value} {sign} {part.strip()}' for part in parts)
+    cure = in_place_of(site, start, end, join.join(f'{value} {sign} {part.strip()}' for part in parts))
     return f'Values are compared one by one: {instead(cure, text(site, start, end))}.'
 
 

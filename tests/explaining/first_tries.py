@@ -89,6 +89,12 @@ LAMBDAS = [
     ('x = of(2).map(x -> \u00a6{ return x * 2; }).sum()', 'x = 4'),
     ('x = of(2).map(x -> return \u00a6x * 2).sum()', 'x = 4'),
     ('x = of(2).map(_ \u00a6* 2).sum()', 'x = 4'),
+    ('x = of(-2).map(abs\u00a6).sum()', 'x = 2'),
+    ('x = of(-2).map(\u00a6Math.abs).sum()', 'x = 2'),
+    ('x = of(2).map(\u00a6* 2).sum()', 'x = 4'),
+    ('x = of(2, 5).map(\u00a6+ 1).sum()', 'x = 9'),
+    ('x = of(2, 5).map(\u00a6- 1).sum()', 'x = 5'),
+    ('x = column("qty").filter(q -> \u00a6!q % 2 && q > 0).count()', 'x = 4'),
     ('x = of(2).map(it \u00a6* 2).sum()', 'x = 4'),
     ('x = column("price").filter(\u00a6> 100).count()', 'x = 5'),
     ('x = column("price").filter(price \u00a6> 100).count()', 'x = 5'),
@@ -273,6 +279,9 @@ IN_TURN = [
     ('x = column("price").filter(p -> p >= 200 \u00a6and <= 300).count()', 'x = 3'),
     ('x = column("price").\u00a6select(p -> p between 100 and 300 and p != 200).sum()', 'x = 675'),
     ('x = column("qty").filter(q -> q \u00a6in (4, 10) or q == 3 or q == 99).count()', 'x = 3'),
+    ('x = column("qty").filter(q -> q \u00a6in (4, 10) and q > 5).count()', 'x = 1'),
+    ('x = column("qty").filter(q -> q > 5 \u00a6and q in (4, 10)).count()', 'x = 1'),
+    ('x = column("qty").filter(q -> q in \u00a6[4, 10] and q > 5).count()', 'x = 1'),
 ]
 FOLLOWED = [*NUMBERS, *CALCULATIONS, *LAMBDAS, *BEGINS, *ENDS, *ROWS, *ORDERS]
 
@@ -296,6 +305,8 @@ COMMANDS = [
 PAGES = [
     ('x = of(3).map(x -> x + 0\u00a6.5).sum()', 'docs/tables.md'),
     ('x = of(3).map(x -> x *\u00a6* 2 ** 2).sum()', 'x * x'),
+    ('x = of(3).filter(x -> x != 1 \u00a6|| 2).count()', 'condition'),
+    ('x = of(3).map(\u00a6-1).sum()', 'parameter'),
     ('x = of(7).filter(p -> (p * 0\u00a6.5) > 3).count()', 'docs/tables.md'),
     ('x = of(4).filter(p -> p - 0\u00a6.5 > 3).count()', 'docs/tables.md'),
     ('x = column("price").\u00a6tail().sum()', 'docs/job-language.md'),
