@@ -2,10 +2,10 @@
 from __future__ import annotations
 
 import re
-from typing import List, Tuple
+from typing import Collection, List, Tuple
 
 from . import java_words
-from .operands import RELATIONS, SIDES, call_at, closing, end_of, in_place_of, instead, operand_end, start_of, text, without
+from .operands import RELATIONS, SIDES, call_at, closing, end_of, in_place_of, instead, operand_end, source_name, start_of, text, without
 from .refusals import Wanted
 from .site import Rule, Site
 from .tokens import Kind
@@ -101,6 +101,11 @@ def value_method(site: Site) -> str:
     return instead(form.format(value, *parts), old) if old and form else ''
 
 
+def other_columns(site: Site, names: Collection[str]) -> List[str]:
+    """Those of some names that are columns of the table, and not the one that the job reads."""
+    return [it for it in names if it in (site.columns or ()) and it != source_name(site)] if source_name(site) else []
+
+
 def bare_text(site: Site) -> str:
     """The argument around the place, or before it if it ends there."""
     at = site.open_at()
@@ -127,6 +132,10 @@ def bare_lambda(site: Site) -> str:
     names = set(re.findall(r'(?<![\w.$])[A-Za-z_]\w*(?!\w*\s*[(.])', argument)) - {'Math', 'Long', 'true', 'false'}
     if names == {'_'}:
         return 'x -> ' + re.sub(r'(?<!\w)_(?!\w)', 'x', argument)
+    others = other_columns(site, names)
+    if others:
+        cells = re.sub(r'(?<![\w.$"])(' + '|'.join(others) + r')(?![\w"])', r'cell("\1")', argument)
+        return f'{source_name(site) if source_name(site) in names else "x"} -> {cells}' if names <= {source_name(site), *others} else ''
     return f'{names.pop() if len(names) == 1 else "x"} -> {argument}' if len(names) <= 1 else ''
 
 

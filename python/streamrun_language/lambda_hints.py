@@ -7,7 +7,7 @@ from typing import Collection, Tuple
 from . import java_words
 from .choice_hints import bare_lambda, bare_text, half_side, number_or_other
 from .lambdas import RESERVED, STREAMS
-from .operands import TERMS, call_at, closing, instead, opening, operand_end, start_of, text, without
+from .operands import TERMS, asked_for, call_at, closing, instead, opening, operand_end, start_of, text, without
 from .refusals import Wanted
 from .row_hints import OTHER_CELL
 from .site import Rule, Site
@@ -82,7 +82,8 @@ def head_hint(site: Site) -> str:
     made, argument = bare_lambda(site), bare_text(site)
     made = f'x -> {method_of(argument)}(x)' if CALLS.get(method_of(argument)) and CALLS[method_of(argument)].count == 1 else made
     if made:
-        return f'A lambda is a parameter, -> and an expression: {instead(made, argument)}.'
+        asked = asked_for(site) if 'cell(' in made and 'cell(' not in argument else ''
+        return f'A lambda is a parameter, -> and an expression: {instead(made, argument)}{asked}.'
     return 'A lambda is a parameter, -> and an expression: x -> x * 2.'
 
 

@@ -240,6 +240,8 @@ ENDS = [
 ROWS = [
     ('x = column("price").map(p -> p * \u00a6qty).sum()', 'x = 9350'),
     ('x = column("price").map(p -> p * column\u00a6("qty")).sum()', 'x = 9350'),
+    ('x = column("price").map(price \u00a6* qty).sum()', 'x = 9350'),
+    ('x = column("price").filter(qty \u00a6> 3).sum()', 'x = 1075'),
     ('x = column("price").map(p -> p * cell\u00a6("qty")).sum()', 'x = 9350'),
     ('x = column("price").map(p -> p * cell\u00a6["qty"]).sum()', 'x = 9350'),
     ('x = column("price") \u00a6* column("qty")', 'x = [1200, -100, 400, 5000, 1200, 1650]'),
@@ -279,6 +281,7 @@ IN_TURN = [
     ('x = column("price").filter(p -> p >= 200 \u00a6and <= 300).count()', 'x = 3'),
     ('x = column("price").\u00a6select(p -> p between 100 and 300 and p != 200).sum()', 'x = 675'),
     ('x = column("qty").filter(q -> q \u00a6in (4, 10) or q == 3 or q == 99).count()', 'x = 3'),
+    ('x = column("price").map(\u00a6Math.max(price, qty)).sum()', 'x = 1775'),
     ('x = column("qty").filter(q -> q \u00a6in (4, 10) and q > 5).count()', 'x = 1'),
     ('x = column("qty").filter(q -> q > 5 \u00a6and q in (4, 10)).count()', 'x = 1'),
     ('x = column("qty").filter(q -> q in \u00a6[4, 10] and q > 5).count()', 'x = 1'),
