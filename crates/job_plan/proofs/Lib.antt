@@ -1,6 +1,7 @@
 -- The lemmas of this crate; the first line of each file says what they are about.
 pub mod CountLemmas
 pub mod EnoughLemmas
+pub mod FirstsLemmas
 pub mod FrontLemmas
 pub mod KeptLemmas
 pub mod LentLemmas

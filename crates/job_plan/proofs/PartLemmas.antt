@@ -16,7 +16,7 @@ use Rattle.reduce_ops.specs.ExactSums.{exact_sum as exactly_summed}
 use Rattle.reduce_ops.specs.Folds.{ones, unless_faulted}
 use Rattle.reduce_ops.specs.Parts.{StandsFor as FoldStands}
 use Rattle.reduce_ops.proofs.SettledSums.{first_settles as first_sum_settles, sum_settled, sum_settles}
-use Rattle.sort_ops.specs.Parts.{AbstractKept, firsts_of, order_of}
+use Rattle.sort_ops.specs.Parts.{AbstractKept, done_after, order_of}
 use Rattle.find_ops.specs.Finds.{find_answer}
 use Rattle.find_ops.proofs.DecisionLemmas.{settled as find_settled}
 use Rattle.job_plan.specs.Arrays.{AbstractArray, array, array_of, values_then, array_append}
@@ -34,6 +34,8 @@ use Rattle.prefix_walks.specs.Batches.{counted_as}
 use Rattle.job_routes.specs.Legs.{AbstractEnd, folding, finding, collecting, exactly, scanning, sorting, keeping_firsts, AbstractSegment, ended, last_stage, outcome_of, walk_of}
 use Rattle.prefix_walks.specs.Pieces.{piece_of}
 use Rattle.job_meaning.specs.Walks.{exact_answer, found_answer, unless_fault}
+use Rattle.sort_ops.specs.Firsts.{distinct_walk}
+use Rattle.job_plan.proofs.FirstsLemmas.{firsts_settle, firsts_settled}
 use Rattle.job_plan.proofs.SettleLemmas.{faults, find_settles, settles_on}
 
 -- ---- folds
@@ -134,7 +136,7 @@ settled collecting n env (part.Array p) a b h s = s ∙ ap array_of (sym (faulte
 settled (scanning f r) n env (part.Prefix p) a b h s = s ∙ ap (scan f r n) (sym (faulted_stays a b (ap (λ (k : AbstractScan). is_fault k.walk.ending) (sym s) ∙ h)))
 settled exactly n env (part.Exact p) a b h s = sum_settled n p a b h s
 settled sorting n env (part.Sorted p) a b h s = s ∙ ap order_of (sym (faulted_stays a b (ap (λ (k : AbstractKept). is_fault k.ending) (sym s) ∙ h)))
-settled keeping_firsts n env (part.Distinct p) a b h s = s ∙ ap firsts_of (sym (faulted_stays a b (ap (λ (k : AbstractKept). is_fault k.ending) (sym s) ∙ h)))
+settled (keeping_firsts m) n env (part.Distinct p) a b h s = firsts_settled m p a b h s
 settled e n env p a b h s = s
 
 -- ---- arrays
@@ -217,7 +219,7 @@ part_settles (finding d) n env (part.Find p) t h k s = settles_on (λ r. outcome
 part_settles collecting n env (part.Array p) t h k s = faults (ended collecting n env) t (sym (ap (λ (k : AbstractArray). is_fault k.ending) s) ∙ h)
 part_settles (scanning f r) n env (part.Prefix p) t h k s = faults (ended (scanning f r) n env) t (sym (ap (λ (k : AbstractScan). is_fault k.walk.ending) s) ∙ h)
 part_settles sorting n env (part.Sorted p) t h k s = faults (ended sorting n env) t (sym (ap (λ (k : AbstractKept). is_fault k.ending) s) ∙ h)
-part_settles keeping_firsts n env (part.Distinct p) t h k s = faults (ended keeping_firsts n env) t (sym (ap (λ (k : AbstractKept). is_fault k.ending) s) ∙ h)
+part_settles (keeping_firsts m) n env (part.Distinct p) t h k s = settles_on outcome.Source (λ u. done_after m (distinct_walk [] u)) t (firsts_settle m p t h s)
 part_settles exactly n env (part.Exact p) t h k s = settles_on (λ r. outcome.Answer (exact_answer r)) (exactly_summed n) t (sum_settles n p t h k s)
 part_settles e n env p t h k s = absurd s
 

@@ -16,7 +16,7 @@ use Rattle.job_plan.specs.Parts.{is_fault}
 pub settles_on : {A B : Type 0} (f : A → B) (close : Trace → A) (t : Trace) → IsSettled close t → IsSettled (λ u. f (close u)) t
 settles_on f close t h a b c = ap f (h a b c)
 
-the_fault : (e : End) → is_fault e ≡ true → (f : Fault) × (e ≡ end.Fault f)
+pub the_fault : (e : End) → is_fault e ≡ true → (f : Fault) × (e ≡ end.Fault f)
 the_fault end.Done h = absurd (let z : false ≡ true = h in cc)
 the_fault (end.Fault f) h = (f, refl)
 

@@ -1,5 +1,5 @@
 -- Condition: what the parts and sources of the program mean.
-use Rattle.std.specs.Prelude.{◌≡◌, ℕ, zero, suc, ℤ, Bool, true, false, if◌then◌else◌, List, Option, Some, is_some, None}
+use Rattle.std.specs.Prelude.{◌≡◌, ◌||◌, ℕ, zero, suc, ℤ, Bool, true, false, if◌then◌else◌, List, Option, Some, is_some, None}
 use Rattle.lambda_values.specs.Earlier.{Numbers}
 use Rattle.lambda_values.specs.declared.item.Item.{Item}
 use Rattle.trace.specs.declared.item.End.{End}
@@ -10,7 +10,7 @@ use Rattle.trace.specs.Trace.{Trace, trace, append}
 use Rattle.reduce_ops.specs.declared.op.Op.{Op}
 use Rattle.reduce_ops.specs.Parts.{StandsFor as FoldStands}
 use Rattle.reduce_ops.specs.Reaches.{StandsFor as SumStands, is_running as is_running_sum, is_settled as sum_is_settled, may_search as sum_may_search}
-use Rattle.sort_ops.specs.Parts.{firsts_of, order_of}
+use Rattle.sort_ops.specs.Parts.{AreFirsts, order_of}
 use Rattle.find_ops.specs.Parts.{StandsFor as FindStands}
 use Rattle.early_stop.specs.Leaving.{IsEnough}
 use Rattle.job_plan.specs.Arrays.{array_of}
@@ -44,7 +44,7 @@ EndsFor collecting n env (part.Array c) t = c ≡ array_of t
 EndsFor (scanning f r) n env (part.Prefix p) t = p ≡ scan f r n t
 EndsFor exactly n env (part.Exact p) t = SumStands n p t
 EndsFor sorting n env (part.Sorted p) t = p ≡ order_of t
-EndsFor keeping_firsts n env (part.Distinct p) t = p ≡ firsts_of t
+EndsFor (keeping_firsts m) n env (part.Distinct p) t = AreFirsts m p t
 EndsFor e n env p t = ⊥
 
 -- whether a part of a whole walk may leave it open what the segment gives, so that the walk is to be done once more, in
@@ -83,7 +83,7 @@ is_settled (part.Array c) = is_fault c.ending
 is_settled (part.Prefix p) = is_fault p.walk.ending
 is_settled (part.Exact p) = sum_is_settled p
 is_settled (part.Sorted p) = is_fault p.ending
-is_settled (part.Distinct p) = is_fault p.ending
+is_settled (part.Distinct p) = is_fault p.kept.ending || p.full
 
 -- whether a part is the sum of a walk from the first item on
 abbrev pub is_running : Part → Bool
@@ -101,7 +101,7 @@ abbrev pub end_keeps_items : AbstractEnd → Bool
 end_keeps_items collecting = true
 end_keeps_items (scanning f r) = true
 end_keeps_items sorting = true
-end_keeps_items keeping_firsts = true
+end_keeps_items (keeping_firsts m) = true
 end_keeps_items e = false
 
 -- whether a part keeps items

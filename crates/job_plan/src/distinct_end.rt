@@ -1,7 +1,9 @@
 //! What a piece gives to `distinct` at the end of a segment.
 
-ghost use Rattle.std.specs.Prelude.{◌≡◌, IfOk};
-ghost use Rattle.sort_ops.specs.Parts.{trace_of};
+ghost use Rattle.std.specs.Prelude.{◌≡◌, [], ℕ, Option, IfOk};
+ghost use Rattle.trace.specs.Trace.{Trace};
+ghost use Rattle.sort_ops.specs.Firsts.{distinct_walk};
+ghost use Rattle.sort_ops.specs.Parts.{AreFirsts, done_after};
 ghost use Rattle.job_plan.specs.declared.part.Part.TheVariants as part;
 
 use crate::end_part::{EndPart, LastStage, is_fault};
@@ -27,7 +29,7 @@ impl EndPart for DistinctPart {
     }
 
     fn is_settled(&self) -> bool {
-        is_fault(self.end())
+        is_fault(self.end()) || self.is_full()
     }
 
     fn merge(mut self, right: DistinctPart) -> Result<DistinctPart, (DistinctPart, DistinctPart)> {
@@ -40,7 +42,8 @@ impl EndPart for DistinctPart {
 
 /// What `distinct` gives of a whole walk.
 pub(crate) fn distinct_walk<'a>(part: DistinctPart) -> Result<GivenWalk<'a>, NoMemory>
-    ensures { IfOk result (λ given. given ≡ trace_of part) }
+    ensures { IfOk result (λ given. (m : Option ℕ) (t : Trace) → AreFirsts m part t
+        → given ≡ done_after m (distinct_walk [] t)) }
 {
     let (items, end) = part.finish()?;
     Ok(GivenWalk::items(items, end))

@@ -89,7 +89,7 @@ impl<'p> Part<'p> {
             }
             SegmentEnd::ExactSum => Part::Exact(SumPart::none()),
             SegmentEnd::Sorted => Part::Sorted(SortedPart::none(alloc)),
-            SegmentEnd::Distinct => Part::Distinct(DistinctPart::none(alloc)),
+            SegmentEnd::Distinct { most } => Part::Distinct(DistinctPart::none(alloc, *most)),
         }
     }
 

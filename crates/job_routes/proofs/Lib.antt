@@ -1,4 +1,5 @@
 -- The lemmas of this crate; the first line of each file says what they are about.
+pub mod AskLemmas
 pub mod BuiltLemmas
 pub mod LinkLemmas
 pub mod MapLemmas

@@ -32,10 +32,10 @@ limited_none t = by (nat_lt (length t.items) 0) refl
     by true h = let l = ltb-true (length t.items) 0 h in absurd (omega (arith, l))
     by false h = ap (λ xs. trace xs end.Done) (take_none t.items)
 
-limited_end : (n : ℕ) (e : End) → limited (suc n) (trace [] e) ≡ trace [] e
+pub limited_end : (n : ℕ) (e : End) → limited (suc n) (trace [] e) ≡ trace [] e
 limited_end n e = ap (λ (b : Bool). if b then trace [] e else trace (take (suc n) []) end.Done) (lt-ltb 0 (suc n) (omega arith))
 
-limited_next : (n : ℕ) (x : Item) (t : Trace) → limited (suc n) (first_of x t) ≡ first_of x (limited n t)
+pub limited_next : (n : ℕ) (x : Item) (t : Trace) → limited (suc n) (first_of x t) ≡ first_of x (limited n t)
 limited_next n x t = by (nat_lt (length t.items) n) refl (nat_lt (suc (length t.items)) (suc n)) refl
   where
     by : (b : Bool) → nat_lt (length t.items) n ≡ b → (c : Bool) → nat_lt (suc (length t.items)) (suc n) ≡ c

@@ -57,17 +57,17 @@ clean_sorted t = by t.ending
     by (end.Fault g) = λ h e. refl
 
 -- only `distinct` gives items before a fault
-clean_given : (e : AbstractEnd) (n : ℕ) (env : Numbers) (t : Trace) → (e ≡ keeping_firsts → ⊥) → IsClean (given_walk (ended e n env t))
+clean_given : (e : AbstractEnd) (n : ℕ) (env : Numbers) (t : Trace) → ((m : Option ℕ) → e ≡ keeping_firsts m → ⊥) → IsClean (given_walk (ended e n env t))
 clean_given (folding f a counts) n env t other = λ g h. refl
 clean_given (finding d) n env t other = λ g h. refl
 clean_given (scanning f r) n env t other = clean_prefixed (value_of f) r n t
 clean_given sorting n env t other = clean_sorted t
-clean_given keeping_firsts n env t other = absurd (other refl)
+clean_given (keeping_firsts m) n env t other = absurd (other m refl)
 clean_given exactly n env t other = λ g h. refl
 clean_given collecting n env t other = λ g h. refl
 
 -- what the last of several legs gives
-pub clean_last : (ls : List Leg) (l : Leg) (env : Numbers) (t : Trace) → Some l ≡ slice_get ls (length ls - 1) → (end_in l.last.end ≡ keeping_firsts → ⊥) → IsClean (scanned (legs_in ls) env t)
+pub clean_last : (ls : List Leg) (l : Leg) (env : Numbers) (t : Trace) → Some l ≡ slice_get ls (length ls - 1) → ((m : Option ℕ) → end_in l.last.end ≡ keeping_firsts m → ⊥) → IsClean (scanned (legs_in ls) env t)
 clean_last ls l env t is other =
     let i = length ls - 1 in
     let within = slice_get_within ls i l (sym is) in

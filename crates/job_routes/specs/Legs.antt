@@ -14,6 +14,7 @@ use Rattle.slice_ops.specs.Slices.{AbstractSlice, slice_of, sliced}
 use Rattle.prefix_scan.specs.Prefixes.{Range, prefixed}
 use Rattle.sort_ops.specs.Firsts.{distinct_walk}
 use Rattle.sort_ops.specs.Orders.{sorted_walk}
+use Rattle.sort_ops.specs.Parts.{done_after}
 use Rattle.prefix_walks.specs.Batches.{counted_as}
 use Rattle.prefix_walks.specs.Pieces.{elements}
 use Rattle.find_ops.specs.Finds.{Find, any_match, all_match, find_answer, find_of, first as find_first, none_match}
@@ -33,7 +34,7 @@ use Rattle.job_routes.specs.declared.leg.Leg.{Leg}
 use Rattle.job_routes.specs.declared.leg.Link.{Link}
 
 -- the end of a segment: a fold (its operator, its start, and whether it counts), a find or a match, the values, an exact
--- sum, a prefix (its operator and its range), a `sorted`, or a `distinct`
+-- sum, a prefix (its operator and its range), a `sorted`, or a `distinct` (how many items are asked of it, or all)
 pub data AbstractEnd : Type 0 where
   folding : Op → Option ℤ → Bool → AbstractEnd
   finding : Find → AbstractEnd
@@ -41,7 +42,7 @@ pub data AbstractEnd : Type 0 where
   exactly : AbstractEnd
   scanning : Op → Range → AbstractEnd
   sorting : AbstractEnd
-  keeping_firsts : AbstractEnd
+  keeping_firsts : Option ℕ → AbstractEnd
 
 -- stages that look at one item at a time, the first one with this number, and what ends them
 pub record AbstractSegment : Type 0 where
@@ -92,7 +93,7 @@ ended (folding f a counts) n env t = outcome.Answer (unless_fault t.ending (fold
 ended (finding d) n env t = outcome.Answer (found_answer (find_answer d n env t))
 ended (scanning f r) n env t = outcome.Source (prefixed (value_of f) r n t)
 ended sorting n env t = outcome.Source (sorted_walk t)
-ended keeping_firsts n env t = outcome.Source (distinct_walk [] t)
+ended (keeping_firsts most) n env t = outcome.Source (done_after most (distinct_walk [] t))
 ended exactly n env t = outcome.Answer (exact_answer (exactly_summed n t))
 ended collecting n env t = outcome.Answer (unless_fault t.ending (answer.Array (each_of (λ (x : Item). x.value) t.items)))
 
@@ -171,7 +172,7 @@ end_in ends.Array = collecting
 end_in ends.ExactSum = exactly
 end_in (ends.Prefix p) = scanning p.op p.range
 end_in ends.Sorted = sorting
-end_in ends.Distinct = keeping_firsts
+end_in (ends.Distinct most) = keeping_firsts most
 
 -- the test that an end asks of items: a match has one
 abbrev pub test_of : AbstractEnd → Option Truth
@@ -184,7 +185,7 @@ test_of collecting = None
 test_of exactly = None
 test_of (scanning f r) = None
 test_of sorting = None
-test_of keeping_firsts = None
+test_of (keeping_firsts most) = None
 
 -- whether an end takes lanes with their flags: a fold whose operator has an identity, and `findFirst`
 abbrev pub takes_flags : AbstractEnd → Bool
@@ -197,7 +198,7 @@ takes_flags collecting = false
 takes_flags exactly = false
 takes_flags (scanning f r) = false
 takes_flags sorting = false
-takes_flags keeping_firsts = false
+takes_flags (keeping_firsts most) = false
 
 -- the number of the stage after stages of the program, and what these make of a walk
 abbrev pub number_after : NumberedStages → ℕ

@@ -6,7 +6,7 @@ ghost use Rattle.std.specs.Prelude.{◌≡◌, ◌≤◌, ℕ, suc, List, [], No
 ghost use Rattle.lambda_values.specs.Earlier.{Numbers};
 ghost use Rattle.trace.specs.Stages.{stage_of, through};
 ghost use Rattle.trace.specs.Trace.{Trace};
-ghost use Rattle.slice_ops.specs.Slices.{slice_of, sliced};
+ghost use Rattle.slice_ops.specs.Slices.{limit, slice_of, sliced};
 ghost use Rattle.job_language.specs.Jobs.{AbstractPlainSource, job_stage_of, job_stages_of, terminal_of};
 ghost use Rattle.job_meaning.specs.Walks.{after_stage, after_stages, answer_of, source_walk};
 ghost use Rattle.job_routes.specs.Building.{HasNext, IsClean, begun_walk};
@@ -135,7 +135,22 @@ impl Begun {
         self.scans = Vec::new(self.alloc);
     }
 
-    /// Adds a slice. Nothing is walked before `limit(0)`.
+    /// Adds a `limit` that selects no positions. Nothing is walked before `limit(0)`.
+    fn limit(&mut self, count: u64) -> Result<(), NoMemory>
+        requires few { number_after self.old.stages ≤ 32 }
+        ensures { OnOk result (HasNext self.old (sliced (limit count)) self.new) }
+    {
+        if count == 0 {
+            self.forget();
+            return self.link(Slice::Limit(count));
+        }
+        if self.ask(count) {
+            return self.select(self.window);
+        }
+        self.link(Slice::Limit(count))
+    }
+
+    /// Adds a slice.
     fn slice(&mut self, slice: Slice) -> Result<(), NoMemory>
         requires few { number_after self.old.stages ≤ 32 }
         ensures { OnOk result (HasNext self.old (sliced (slice_of slice)) self.new) }
@@ -143,10 +158,10 @@ impl Begun {
         if let Some(window) = self.selected(&slice) {
             return self.select(window);
         }
-        if let Slice::Limit(0) = slice {
-            self.forget();
+        match slice {
+            Slice::Limit(count) => self.limit(count),
+            other => self.link(other),
         }
-        self.link(slice)
     }
 
     /// The leg that goes on, with this end; the next one goes over all positions.
@@ -208,7 +223,7 @@ impl Begun {
                 self.scan(SegmentEnd::Prefix(Prefix { op, range }))
             }
             JobStage::Sorted => self.scan(SegmentEnd::Sorted),
-            JobStage::Distinct => self.scan(SegmentEnd::Distinct),
+            JobStage::Distinct => self.scan(SegmentEnd::Distinct { most: None }),
         }
     }
 
@@ -247,6 +262,7 @@ pub fn legs_of(
     for stage in stages {
         begun.add(stage)?;
     }
+    begun.ask_for(&end);
     let walked = begun.end_for(end);
     let last = begun.take_leg(walked);
     Ok((begun.scans, last))

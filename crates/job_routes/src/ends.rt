@@ -1,10 +1,15 @@
 //! What ends a segment, and all that is asked of it but its parts.
 
-ghost use Rattle.std.specs.Prelude.{◌≡◌, ◌≢◌, IsTrue, None, false, option_map};
+ghost use Rattle.std.specs.Prelude.{◌≡◌, ◌≢◌, ℕ, IsTrue, Option, None, Some, false, true, option_map};
 ghost use Rattle.job_language.specs.Jobs.{terminal_of};
 ghost use Rattle.job_meaning.specs.Walks.{number_as};
-ghost use Rattle.job_routes.specs.Legs.{end_in, end_of, fallback_in, folding, keeping_firsts, takes_flags, test_of};
+ghost use Rattle.find_ops.specs.Finds.{first};
+ghost use Rattle.job_routes.specs.Legs.{end_in, end_of, fallback_in, finding, folding, keeping_firsts, takes_flags};
+ghost use Rattle.job_routes.specs.Legs.{ended, given_walk, test_of};
+ghost use Rattle.lambda_values.specs.Earlier.{Numbers};
 ghost use Rattle.lambda_values.specs.Term.{truth_of};
+ghost use Rattle.sort_ops.specs.Parts.{done_after};
+ghost use Rattle.trace.specs.Trace.{Trace};
 
 use crate::fallback::Fallback;
 use find_ops::FindTerminal;
@@ -38,8 +43,8 @@ pub enum SegmentEnd {
     ExactSum,
     /// `sorted`.
     Sorted,
-    /// `distinct`.
-    Distinct,
+    /// `distinct`, and how many items are asked for, if not all.
+    Distinct { most: Option<u64> },
 }
 
 impl SegmentEnd {
@@ -83,15 +88,36 @@ impl SegmentEnd {
             SegmentEnd::Fold(fold) => fold.op.identity().is_some(),
             SegmentEnd::Find(find) => matches!(find, FindTerminal::First),
             SegmentEnd::Array | SegmentEnd::Prefix(_) | SegmentEnd::ExactSum => false,
-            SegmentEnd::Sorted | SegmentEnd::Distinct => false,
+            SegmentEnd::Sorted | SegmentEnd::Distinct { .. } => false,
         }
     }
 
     /// Whether what it gives has no item before a fault: `distinct` gives such items.
     pub(crate) fn gives_clean(&self) -> bool
-        ensures { IsTrue result → end_in self.now ≢ keeping_firsts }
+        ensures { IsTrue result → (m : Option ℕ) → end_in self.now ≢ keeping_firsts m }
     {
-        !matches!(self, SegmentEnd::Distinct)
+        !matches!(self, SegmentEnd::Distinct { .. })
+    }
+
+    /// Asks a `distinct` for this number of items at most. Whether it is one.
+    pub(crate) fn ask(&mut self, enough: u64) -> bool
+        ensures asked { result ≡ true → (n : ℕ) (env : Numbers) (t : Trace)
+            → given_walk (ended (end_in self.new) n env t)
+            ≡ done_after (Some enough) (given_walk (ended (end_in self.old) n env t)) }
+        ensures same { result ≡ false → self.new ≡ self.old }
+    {
+        let SegmentEnd::Distinct { most } = self else {
+            return false;
+        };
+        *most = Some(at_most(*most, enough));
+        true
+    }
+
+    /// Whether it is `findFirst`, which takes one item.
+    pub(crate) fn takes_one(&self) -> bool
+        ensures { IsTrue result → end_in self.now ≡ finding first }
+    {
+        matches!(self, SegmentEnd::Find(FindTerminal::First))
     }
 
     /// Whether it is a fold that keeps the first value, and has no number before it.
@@ -104,6 +130,16 @@ impl SegmentEnd {
             }
             _ => false,
         }
+    }
+}
+
+/// How many items are asked for where `most` were asked for, and this number is enough.
+fn at_most(most: Option<u64>, enough: u64) -> u64
+    ensures { (t : Trace) → done_after (Some result) t ≡ done_after (Some enough) (done_after most t) }
+{
+    match most {
+        Some(most) => most.min(enough),
+        None => enough,
     }
 }
 

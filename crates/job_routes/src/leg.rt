@@ -1,6 +1,9 @@
 //! A leg of a route: what a walk goes through at once.
 
-ghost use Rattle.std.specs.Prelude.{◌≡◌, ◌≤◌, length};
+ghost use Rattle.std.specs.Prelude.{◌≡◌, ◌≤◌, Some, false, length, true};
+ghost use Rattle.lambda_values.specs.Earlier.{Numbers};
+ghost use Rattle.trace.specs.Trace.{Trace};
+ghost use Rattle.sort_ops.specs.Parts.{done_after};
 
 use crate::numbered_stages::NumberedStages;
 use crate::segment::Segment;
@@ -25,7 +28,7 @@ pub struct Leg {
 }
 
 impl Leg {
-    ghost use Rattle.job_routes.specs.Legs.{is_linked, leg_in};
+    ghost use Rattle.job_routes.specs.Legs.{given_walk, is_linked, leg_in, leg_outcome};
 
     /// Whether there is a slice. The walk is then one piece, whatever its length is.
     pub fn streams(&self) -> bool
@@ -35,5 +38,16 @@ impl Leg {
             Some(_) => true,
             None => false,
         }
+    }
+
+    /// Asks a `distinct` at its end for this number of items at most. Whether there is one.
+    pub(crate) fn ask(&mut self, enough: u64) -> bool
+        ensures asked { result ≡ true → (env : Numbers) (t : Trace)
+            → given_walk (leg_outcome (leg_in self.new) env t)
+            ≡ done_after (Some enough) (given_walk (leg_outcome (leg_in self.old) env t)) }
+        ensures same { result ≡ false → (env : Numbers) (t : Trace)
+            → given_walk (leg_outcome (leg_in self.new) env t) ≡ given_walk (leg_outcome (leg_in self.old) env t) }
+    {
+        self.last.end.ask(enough)
     }
 }

@@ -10,6 +10,7 @@
 //! Not promised: that a leg walks no more than its job needs.
 #![tactic(auto)]
 
+mod asking;
 mod building;
 mod ends;
 mod fallback;

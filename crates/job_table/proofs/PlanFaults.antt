@@ -53,7 +53,7 @@ fold_gives collecting n env p t u f g s h = absurd s
 fold_gives exactly n env p t u f g s h = absurd s
 fold_gives (scanning op r) n env p t u f g s h = absurd s
 fold_gives sorting n env p t u f g s h = absurd s
-fold_gives keeping_firsts n env p t u f g s h = absurd s
+fold_gives (keeping_firsts m) n env p t u f g s h = absurd s
 
 fold_walk : (e : AbstractEnd) (n : ℕ) (env : Numbers) (p : FoldPart) (t : Trace) (f : Fault) → EndsFor e n env (part.Fold p) t → p.partial.end ≡ end.Fault f → t.ending ≡ end.Fault f
 fold_walk (folding op a c) n env p t f s h = sym s.stands.ending ∙ h
@@ -62,7 +62,7 @@ fold_walk collecting n env p t f s h = absurd s
 fold_walk exactly n env p t f s h = absurd s
 fold_walk (scanning op r) n env p t f s h = absurd s
 fold_walk sorting n env p t f s h = absurd s
-fold_walk keeping_firsts n env p t f s h = absurd s
+fold_walk (keeping_firsts m) n env p t f s h = absurd s
 
 -- ---- a walk with a fault in its middle
 
