@@ -72,7 +72,7 @@ def crate_peer(work, path):
     """The command of a peer in Rust that is built by cargo with the crates of Debian; None, with a line, if it can't be built."""
     name, sources = os.path.basename(path), os.path.join(work, f'{os.path.basename(path)}-sources')
     if not shutil.which('cargo') or not os.path.isdir(CRATES):
-        print(f'{path}: left out, since cargo or the folder {CRATES} (librust-csv-dev) is not there')
+        print(f'{path}: left out, since cargo or the folder {CRATES} (librust-csv-dev and librust-rayon-dev) is not there')
         return None
     shutil.copytree(os.path.join(HERE, path), sources)
     more = [word for it in ('crates-io.replace-with="debian"', f'debian.directory="{CRATES}"') for word in ('--config', f'source.{it}')]

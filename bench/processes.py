@@ -167,8 +167,8 @@ def tables():
     sqlite3 don't add long numbers in 64 bits. Rust parses each cell but checks neither its range nor the length of a row.
 
     The shapes text and lines have three columns of integers and two of text of 8 to 40 bytes, one of them in quotes, in `lines` with
-    line feeds; the sums of two columns are asked for by --only-named, and beside it by Miller, sqlite3, mawk, pandas (usecols) and
-    Rust's crate csv; and by the program over a table of the three columns of integers alone.
+    line feeds; the sums of two columns are asked for by --only-named, and beside it by Miller, sqlite3, mawk, pandas (usecols),
+    and Rust's crates csv and rayon; and by the program over a table of the three columns of integers alone.
     """
     options = options_of(tables.__doc__, rows=['100000', '1000000', '10000000'], columns=['1', '4', '16'],
                          shapes='mixed short long quoted text lines'.split(), tasks=['sum', 'twelve'], turns=3)

@@ -69,8 +69,8 @@ def options_of(only_named: bool, separator: str | None, blank: int | None) -> li
     return words + ([] if blank is None else [f'--blank={blank}'])
 
 
-def named_by(jobs: str | os.PathLike[str], text: str | None) -> set[str]:
-    """The names of columns in the jobs; the program says what is wrong with a file that can't be read."""
+def named_by(jobs: str | os.PathLike[str], text: str | None) -> dict[str, bool]:
+    """The names of columns in the jobs, each with whether they look at it with decimal places; the program says what is wrong with a file that can't be read."""
     data = text if text is not None else (bytes_of(os.fspath(jobs)) or b'').decode(errors='replace')
     return named_in(data)
 

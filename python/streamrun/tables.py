@@ -2,7 +2,8 @@
 from __future__ import annotations
 
 import re
-from collections.abc import Collection, Iterable, Mapping
+from collections.abc import Iterable, Mapping
+from decimal import Decimal
 from typing import Any
 
 from .errors import TableError
@@ -13,22 +14,24 @@ except ImportError:
     numpy = None  # type: ignore[assignment]
 
 LEAST, GREATEST = -2 ** 63, 2 ** 63 - 1
-# The names of columns in a text of jobs, and lines that are comments.
-NAMED, COMMENT = re.compile(r'"([^"\\\r\n]*)"'), re.compile(r'^[ \t]*(#|//).*$', re.M)
+# The names of columns in a text of jobs, with decimal places or without, and lines that are comments.
+NAMED, COMMENT = re.compile(r'"([^"\\\r\n]*)"(\s*,\s*[0-9])?'), re.compile(r'^[ \t]*(#|//).*$', re.M)
 # Numbers in texts.
 INTEGER, DECIMAL = re.compile(r'\s*[+-]?[0-9]+\s*'), re.compile(r'\s*[+-]?[0-9]*[.]?[0-9]+\s*')
 # Digits are written by this many at a time.
 DIGITS = 4
 
 
-def named_in(text: str) -> set[str]:
-    """The names of columns that a text of jobs has."""
-    return set(NAMED.findall(COMMENT.sub('', text)))
+def named_in(text: str) -> dict[str, bool]:
+    """The names of columns that a text of jobs has, each with whether jobs look at it with decimal places."""
+    found = NAMED.findall(COMMENT.sub('', text))
+    return {name: any(places and name == other for other, places in found) for name in {name for name, _ in found}}
 
 
-def csv_of(table: Any, named: Collection[str] | None = None) -> bytes:
+def csv_of(table: Any, named: Mapping[str, bool] | None = None) -> bytes:
     """The bytes of a column file with a table: a data frame of pandas, or a mapping of names to lists or arrays; named: the
-    columns that are wanted, or None for all. There are no bytes if it has none of them."""
+    columns that are wanted, each with whether it may have decimals, or None for all as integers. There are no bytes if it has none
+    of them."""
     if not isinstance(table, Mapping) and not (hasattr(table, 'items') and hasattr(table, 'dtypes')):
         raise TableError(f'columns= takes a path, a dict of lists or arrays, or a data frame, and not {type(table).__name__}')
     given: dict[str, Any] = {}
@@ -40,7 +43,8 @@ def csv_of(table: Any, named: Collection[str] | None = None) -> bytes:
         given[str(name)] = column
     if not len(table.keys()):
         raise TableError('the table has no columns')
-    cells = integers(given)
+    cells = integers({name: column for name, column in given.items() if not (named and named[name])})
+    cells = {name: cells[name] if name in cells else decimals_of(name, column) for name, column in given.items()}
     lengths = {name: len(column) for name, column in cells.items()}
     if len(set(lengths.values())) > 1:
         raise TableError('the columns have several lengths: ' + ', '.join(f'{name} {length}' for name, length in lengths.items()),
@@ -82,6 +86,25 @@ def integers_of(column: Any) -> Any:
     if values and not (LEAST <= min(values) and max(values) <= GREATEST):
         return None
     return values if numpy is None else numpy.array(values, dtype=numpy.int64)
+
+
+def decimals_of(name: str, column: Any) -> list[str]:
+    """The cells of a column with decimals as texts."""
+    values = column.tolist() if hasattr(column, 'tolist') else list(column)
+    texts = [decimal_text(value) for value in values]
+    if None in texts:
+        row = texts.index(None)
+        raise TableError(f'column {name!r} has {values[row]!r} in row {row + 1}: a cell is an integer, a Decimal or a float', (name,))
+    return texts  # type: ignore[return-value]
+
+
+def decimal_text(value: Any) -> str | None:
+    """The digits of a number, with a point if it has a fraction; a float has the fewest digits that are read as it. None if it is no
+    number."""
+    if isinstance(value, (float, Decimal)) and not isinstance(value, bool):
+        number = Decimal(repr(float(value))) if isinstance(value, float) else value
+        return format(number, 'f') if number.is_finite() else None
+    return str(value.__index__()) if hasattr(value, '__index__') and not isinstance(value, bool) else None
 
 
 def is_integer(value: Any) -> bool:
@@ -174,7 +197,7 @@ def rows_of(columns: list[Any]) -> bytes:
     """The lines of the cells."""
     if not columns or not len(columns[0]):
         return b''
-    if numpy is None:
+    if numpy is None or any(isinstance(column, list) for column in columns):
         texts = [list(map(str, column)) for column in columns]
         return ('\n'.join(map(','.join, zip(*texts)) if len(texts) > 1 else texts[0]) + '\n').encode()
     parts = [digits_of(column) for column in columns]

@@ -12,6 +12,8 @@ from dataclasses import dataclass
 from decimal import Decimal
 from typing import Callable, List, Optional, Sequence, Tuple
 
+from . import tokens
+from .tables import integer_of
 from .values import MAX, MIN
 
 # Words for a value that is missing, in lower case.
@@ -42,12 +44,14 @@ EITHER = r'(\d?\d)([/-])(\d?\d)\2(\d{4})'
 
 @dataclass
 class Form:
-    """A kind of cells: its name, how a column is described, a sentence for a cell that is refused, and the value."""
+    """A kind of cells: its name, how a column is described, a sentence for a cell that is refused, and the value; places: with how
+    many decimal places a job may look at the cells, or 0."""
 
     name: str
     shown: str
     sentence: str
     value: str
+    places: int = 0
 
 
 def all_match(pattern: str, cells: Sequence[str]) -> bool:
@@ -108,15 +112,22 @@ def integers(cells: Sequence[str]) -> Optional[Form]:
                 'keep it in a larger unit', '')
 
 
+def read_with_places(cells: Sequence[str]) -> int:
+    """With how many decimal places the program reads these numbers, or 0 if it doesn't."""
+    places = max(len(cell.partition('.')[2]) for cell in cells)
+    is_read = all(integer_of(cell, places, places) is not None for cell in cells)
+    return places if is_read and places <= tokens.MOST_PLACES else 0
+
+
 def decimals(cells: Sequence[str]) -> Optional[Form]:
     """Numbers with a point, or an exponent."""
     if not all_match(r'[+-]?(\d+\.?\d*|\.\d+)(e[+-]?\d+)?', cells):
         return None
-    what, keeps, value = numbers(cells)
+    (what, keeps, value), places = numbers(cells), read_with_places(cells)
     if not value:
-        return Form('too large', what, f'There are {what}: keep them in a larger unit', '')
+        return Form('too large', what, f'There are {what}: keep them in a larger unit', '', places)
     if keeps:
-        return Form('decimals', what, f'A cell is an integer: {keeps}', value)
+        return Form('decimals', what, f'A cell is an integer: {keeps}', value, places)
     how = 'without an exponent' if any('e' in cell.lower() for cell in cells) else 'without .0'
     return Form('integral', f'integers, to be written {how}', f'A number has digits alone, {how}', value)
 

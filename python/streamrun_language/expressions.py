@@ -7,6 +7,7 @@ from __future__ import annotations
 from dataclasses import dataclass
 from typing import Iterator, List, Mapping, Optional, Sequence
 
+from .tokens import key_of
 from .values import BINARY, CALLS, CONSTANTS, MAX, UNARY, Form
 
 # What stands before the name of a parameter in Python, where it might be a reserved word.
@@ -75,9 +76,10 @@ class Cell(Node):
     """The cell of another column, in the row that the item came from; `at` is the place of the string that names it."""
 
     text: str
+    places: int
 
     def python(self, texts, numbers):
-        return f'{COLUMNS}[{self.text!r}][{PLACE}]'
+        return f'{COLUMNS}[{key_of(self.text, self.places)!r}][{PLACE}]'
 
 
 class Row(Node):

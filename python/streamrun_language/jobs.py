@@ -12,7 +12,7 @@ from .lines import NEWEST, JobText, read_lines
 from .operators import EXACT, Operator, read_operator
 from .refusals import Cause, Refused, RefusedFile
 from .syntax import LATER_STAGES, OPERATIONS, OPERATOR, Call, JobReader, JobSyntax, Source
-from .tokens import Token
+from .tokens import Token, key_of
 
 MOST_JOBS, MOST_BYTES, MOST_NAME, MOST_STAGES, MOST_SOURCES, MOST_VALUES = 256, 65536, 64, 32, 8, 1024
 NOT_SCALAR = ('toArray', 'anyMatch', 'allMatch', 'noneMatch')
@@ -35,7 +35,7 @@ class Values:
 
 @dataclass
 class Column:
-    """The cells of a column."""
+    """The cells of a column; with decimal places it has the name of its key."""
 
     name: str
 
@@ -120,9 +120,10 @@ class JobChecker:
 
     def column(self, source: Source) -> Column:
         """A column of the table."""
-        if source.word_text() not in self.columns:
+        key = key_of(source.word_text(), source.places)
+        if key not in self.columns:
             raise Refused(Cause.UNKNOWN_COLUMN, source.word.start, about=source.word_text())
-        return Column(source.word_text())
+        return Column(key)
 
     def result(self, source: Source) -> Result:
         """The array of a job above."""
@@ -179,7 +180,7 @@ class JobChecker:
         for node in read.cells():
             if not self.has_rows:
                 raise Refused(Cause.NO_ROW, node.at, about=node.text)
-            if node.text not in self.columns:
+            if key_of(node.text, node.places) not in self.columns:
                 raise Refused(Cause.UNKNOWN_COLUMN, node.at, about=node.text)
 
     def fallback(self, syntax: JobSyntax) -> Optional[int]:

@@ -167,8 +167,9 @@ class LambdaReader(Reader):
             return e.Row(token.start)
         self.want('(', Wanted.CELL_OPEN)
         column = self.take(Kind.STRING, Wanted.STRING)
+        places = self.places()
         self.want(')', Wanted.CLOSE)
-        return e.Cell(column.start, column.text[1:-1])
+        return e.Cell(column.start, column.text[1:-1], places)
 
     def operands(self) -> List[e.Node]:
         """One operand or more, and the parenthesis after them."""

@@ -44,6 +44,7 @@ class Wanted(Enum):
     OPEN = '`(` after the name of an operation'
     NUMBER = 'a number'
     STRING = 'the name of a column, in double quotes'
+    PLACES = 'a number of decimal places, 0 to 18'
     ARRAY_NAME = 'the name of a job above that gives an array'
     NEXT_NUMBER = '`,` and a further number, or `)`'
     NEXT_PART = '`,` and a further source, or `)`'

@@ -7,7 +7,7 @@ from __future__ import annotations
 from dataclasses import dataclass, field
 from typing import List, Optional, Sequence
 
-from .lambdas import Argument, Want, deep_recursion
+from .lambdas import WITH_ROWS, Argument, Want, deep_recursion
 from .refusals import Cause, Refused, Wanted
 from .tokens import Kind, Reader, Token, cut, stands_nowhere
 from .values import MAX, MIN
@@ -47,14 +47,15 @@ class Numeral:
 
 @dataclass
 class Source:
-    """A source: the bytes from start to end. `word` is the name of a column or of a job; `parts` are the sources of a
-    `concat`."""
+    """A source: the bytes from start to end. `word` is the name of a column, which is looked at with so many decimal places, or of
+    a job; `parts` are the sources of a `concat`."""
 
     name: str
     start: int
     end: int = 0
     numbers: List[Numeral] = field(default_factory=list)
     word: Optional[Token] = None
+    places: int = 0
     parts: List['Source'] = field(default_factory=list)
 
     def word_text(self) -> str:
@@ -166,8 +167,9 @@ class JobReader(Reader):
         self.want(')', Wanted.CLOSE)
 
     def column_source(self, found: Source) -> None:
-        """The name of a column."""
+        """The name of a column, and decimal places from version 3 on."""
         found.word = self.take(Kind.STRING, Wanted.STRING)
+        found.places = self.places() if self.version >= WITH_ROWS else 0
         self.want(')', Wanted.CLOSE)
 
     def result_source(self, found: Source) -> None:

@@ -10,6 +10,7 @@ from .cells import is_missing
 from .refusals import RefusedTable, TableCause
 from .table_view import SEPARATORS, WORDS, Column, View, look_at, on_one_line, plural, shown
 from .tables import INTEGERS, Place, TableForm
+from .tokens import MOST_PLACES, key_of
 
 UNPACKED_BY = {b'\x1f\x8b': 'zcat', b'BZh': 'bzcat', b'\xfd7zXZ': 'xzcat', b'\x28\xb5\x2f\xfd': 'zstdcat'}
 JOBS = re.compile(rb'\s*((#|//)[^\n]*\s+)*(version 2\s+)?[A-Za-z_]\w*\s*=\s*[A-Za-z.]+\(')
@@ -33,7 +34,7 @@ class TableSite:
         self.cell = shown(cells[at]) if at < len(cells) else ''
         self.name = shown(header[at]) if at < len(header) else ''
         self.shown_name = on_one_line(self.name)
-        self.is_named = at < len(header) and header[at] in self.named
+        self.is_named = at < len(header) and any(key_of(header[at], places) in self.named for places in range(MOST_PLACES + 1))
 
     @cached_property
     def view(self) -> View:
@@ -51,7 +52,7 @@ class TableSite:
 
     def is_kept_out(self) -> bool:
         """Whether no job names the column, and all are looked at."""
-        return self.form.names is None and not self.is_named
+        return self.form.is_all and not self.is_named
 
     def has_totals(self) -> bool:
         """Whether the last row has totals, and would be read as a row like others."""
@@ -136,9 +137,11 @@ def odd_hint(site: TableSite) -> str:
 def form_hint(site: TableSite) -> str:
     """What to write for all cells of the column."""
     column = site.column()
+    source = column.with_places()
+    looked = f'{source} in a file of version 3 looks at it with decimal places. Or: ' if source else ''
     if column.is_lost():
-        return f'{column.form.sentence}, or leave the column out of the jobs.'
-    return f'{column.form.sentence}: {site.by(column)}'
+        return f'{looked}{column.form.sentence}, or leave the column out of the jobs.'
+    return f'{looked}{column.form.sentence}: {site.by(column)}'
 
 
 FILES = [
@@ -156,7 +159,7 @@ FILES = [
               'The file is empty: its first line has the names of the columns, with commas between them.'),
     TableRule('header', lambda s: header_hint(s.data, s.form, len(s.place.header)), lambda s: header_hint(s.data, s.form, len(s.place.header))),
     TableRule('too many columns', lambda s: s.refused.cause is TableCause.TOO_MANY,
-              lambda s: 'Run with `--only-named`: the columns that jobs name are counted alone.' if s.form.names is None else
+              lambda s: 'Run with `--only-named`: the columns that jobs name are counted alone.' if s.form.is_all else
               'Name at most 256 columns in a job file, and the others in another file.'),
     TableRule('names that are numbers', lambda s: s.refused.cause is TableCause.SAME_NAME
               and re.fullmatch(r'\s*-?[\d.]+\s*', s.cell),

@@ -77,12 +77,18 @@ class Column:
         value = re.sub(r'\bX\b', field.replace('\\', r'\\'), value)
         return f'{" || ".join(tests)} ? 0 : {value}' if tests else '' if value == field else value
 
+    def with_places(self) -> str:
+        """The source that looks at it with decimal places, or nothing."""
+        is_nameable = self.form and self.form.places and not re.search(r'["\\\r\n]', self.name)
+        return f'column("{self.name}", {self.form.places})' if is_nameable else ''
+
     def is_lost(self) -> bool:
         """Whether no integer is meant by its cells."""
         return not self.form or not self.form.value
 
     def __str__(self):
         what = self.form.shown if self.form else 'blank' if self.is_blank else 'text'
+        what += f', by {self.with_places()}' if self.with_places() else ''
         for word, rows in self.missing.items():
             if not self.is_blank:
                 what += f', {plural(len(rows), f"{word} cell" if word else "blank")} from row {rows[0]} on'

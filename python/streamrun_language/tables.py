@@ -1,6 +1,6 @@
 """Tables: the columns of a CSV file, or why it is refused, and where in the file.
 
-    TableForm                           how a table is read: the sign between cells, the columns that are looked at, blank cells
+    TableForm                           how a table is read: the sign between cells, how columns are looked at, blank cells
     form_for(jobs, newest, ..)          the form that the options of a run ask for
     read_columns(data, form)            the cells of each column by its name, or RefusedTable
     place_of(data, refused, form)       where it is refused
@@ -14,14 +14,19 @@ from typing import Dict, FrozenSet, Iterator, List, NamedTuple, Optional, Tuple
 
 from .lines import MARK, NEWEST, read_lines
 from .refusals import RefusedFile, RefusedTable, TableCause
+from .tokens import MOST_PLACES, key_of, places_of
 from .values import MAX, MIN
 
 MOST_COLUMNS = 256
+# The version of job files that may look at columns with decimal places.
+WITH_PLACES = 3
 # The signs that may stand between cells, and how the option says each.
 SIGNS = {',': ',', ';': ';', '|': '|', '\t': 'tab'}
 QUOTED, PLAIN = re.compile(r'((?:[^"]|"")*)"?'), {sign: re.compile(rf'[^{re.escape(sign)}\r\n]*') for sign in SIGNS}
-CELL, BLANK = re.compile(r'[ \t]*[+-]?[0-9]+[ \t]*'), re.compile(r'[ \t]*')
-NAME = re.compile(rb'"([^"]*)"')
+BLANK = re.compile(r'[ \t]*')
+# A name in a job, and the number of decimal places after it, if there is one.
+NAME = re.compile(rb'"([^"]*)"(?:[ \t]*,[ \t]*([0-9]+))?')
+NUMBER = re.compile(r'[ \t]*([+-]?)([0-9]*)(?:\.([0-9]+))?[ \t]*')
 LINE, LINE_END = re.compile(r'[^\r\n]+'), re.compile(r'\r\n|\r|\n')
 # Fewer decimal digits than these are an integer of 64 bits.
 SHORT = 19
@@ -29,27 +34,39 @@ SHORT = 19
 
 @dataclass(frozen=True)
 class TableForm:
-    """How a table is read: the sign between cells; the names of the columns that are looked at, if not all are; and the number
-    of a blank cell, if it isn't refused."""
+    """How a table is read: the sign between cells; whether all columns are looked at; the names under which jobs look at columns;
+    and the number of a blank cell, if it isn't refused."""
 
     separator: str = ','
-    names: Optional[FrozenSet[str]] = None
+    is_all: bool = True
+    names: FrozenSet[str] = frozenset()
     blank: Optional[int] = None
 
-    def looks_at(self, name: str) -> bool:
-        """Whether the column with a name is looked at."""
-        return self.names is None or name in self.names
+    def looks_at(self, name: str) -> List[int]:
+        """With how many decimal places a column is looked at: with several numbers of them, with one, or not at all."""
+        found = [places for places in range(MOST_PLACES + 1) if key_of(name, places) in self.names]
+        return found or [0] * self.is_all
 
 
 INTEGERS = TableForm()
 
 
 def names_in(jobs: bytes, newest: int = NEWEST) -> FrozenSet[str]:
-    """What stands between double quotes in the jobs of a file; one whose first line continues no job has none."""
+    """What stands between double quotes in the jobs of a file, with the decimal places after it; a file whose first line continues
+    no job has none."""
     try:
-        return frozenset(name.decode('latin-1') for job in read_lines(jobs, newest).jobs for name in NAME.findall(job.text))
+        found = [it for job in read_lines(jobs, newest).jobs for it in NAME.findall(job.text)]
     except RefusedFile:
         return frozenset()
+    return frozenset(key_of(name.decode('latin-1'), places_of(digits.decode()) or 0) for name, digits in found)
+
+
+def is_with_places(jobs: bytes, newest: int) -> bool:
+    """Whether a job file may look at columns with decimal places."""
+    try:
+        return read_lines(jobs, newest).version >= WITH_PLACES
+    except RefusedFile:
+        return False
 
 
 def sign_of(word: str) -> str:
@@ -59,7 +76,8 @@ def sign_of(word: str) -> str:
 
 def form_for(jobs: bytes, newest: int = NEWEST, only_named: bool = False, separator: str = ',', blank: Optional[int] = None) -> TableForm:
     """The form in which a run reads its table by these options, with this job file."""
-    return TableForm(sign_of(separator), names_in(jobs, newest) if only_named else None, blank)
+    names = names_in(jobs, newest) if only_named or is_with_places(jobs, newest) else frozenset()
+    return TableForm(sign_of(separator), not only_named, names, blank)
 
 
 def text_of(data: bytes) -> str:
@@ -118,39 +136,50 @@ def record_at(text: str, row: int, sign: str = ',') -> List[Field]:
     return next(fields_of(text, line.start(), sign)) if line else []
 
 
-def integer_of(text: str) -> Optional[int]:
-    """The integer of a cell, or None if it has none of 64 bits."""
-    if not CELL.fullmatch(text):
+def integer_of(text: str, most: int = 0, places: int = 0) -> Optional[int]:
+    """The number of a cell, which has at most so many digits after its point, times ten to the power of the places; None if it has
+    none of 64 bits."""
+    found = NUMBER.fullmatch(text)
+    if not found or len(found[3] or '') > most or not (found[2] or found[3]):
         return None
-    digits = text.strip(' \t').lstrip('+-').lstrip('0')
+    digits = (found[2] + (found[3] or '').ljust(places, '0')).lstrip('0')
     value = int(digits or '0') if len(digits) < 30 else MAX + 2
-    value = -value if '-' in text else value
+    value = -value if found[1] == '-' else value
     return value if MIN <= value <= MAX else None
 
 
-def read_header(header: Optional[List[str]], form: TableForm = INTEGERS) -> List[Tuple[int, str]]:
-    """The columns that are looked at: the number of each in the header, from 1, and its name. Only these are counted, and have
-    different names."""
+class Looked(NamedTuple):
+    """A column that is looked at: its number in the header, from 1, its name, and with how many decimal places, in order."""
+
+    number: int
+    name: str
+    places: List[int]
+
+
+def read_header(header: Optional[List[str]], form: TableForm = INTEGERS) -> List[Looked]:
+    """The columns that are looked at. Only these are counted, each as often as it is looked at, and have different names."""
     if header is None:
         raise RefusedTable(TableCause.NO_HEADER)
-    kept = [(number, name) for number, name in enumerate(header, 1) if form.looks_at(name)]
-    if len(kept) > MOST_COLUMNS:
-        raise RefusedTable(TableCause.TOO_MANY, column=kept[MOST_COLUMNS][0])
+    kept = [it for it in (Looked(number, name, form.looks_at(name)) for number, name in enumerate(header, 1)) if it.places]
+    keys = [it.number for it in kept for _ in it.places]
+    if len(keys) > MOST_COLUMNS:
+        raise RefusedTable(TableCause.TOO_MANY, column=keys[MOST_COLUMNS])
     names = set()
-    for number, name in kept:
-        if name in names:
-            raise RefusedTable(TableCause.SAME_NAME, column=number)
-        names.add(name)
+    for it in kept:
+        if it.name in names:
+            raise RefusedTable(TableCause.SAME_NAME, column=it.number)
+        names.add(it.name)
     return kept
 
 
-def number_of(cell: str, form: TableForm) -> Optional[int]:
-    """The integer of a cell in a form, or None if it has none."""
-    return form.blank if form.blank is not None and BLANK.fullmatch(cell) else integer_of(cell)
+def number_of(cell: str, form: TableForm, places: List[int]) -> Optional[int]:
+    """The number of a cell in a form for the greatest of these places, or None if it has none for one of them."""
+    filled = str(form.blank) if form.blank is not None and BLANK.fullmatch(cell) else cell
+    return integer_of(filled, places[0], places[-1])
 
 
 def read_columns(data: bytes, form: TableForm = INTEGERS) -> Dict[str, List[int]]:
-    """The cells of each column that is looked at by its name."""
+    """The cells of each column that is looked at by its name, one with decimal places by its key."""
     records = records_of(text_of(data), form.separator)
     header = next(records, None)
     kept = read_header(header, form)
@@ -158,13 +187,15 @@ def read_columns(data: bytes, form: TableForm = INTEGERS) -> Dict[str, List[int]
     for row, record in enumerate(records, 1):
         if len(record) != len(header):
             raise RefusedTable(TableCause.WRONG_LENGTH, row)
-        for cells, (number, _) in zip(columns, kept):
+        for cells, (number, _, places) in zip(columns, kept):
             text = record[number - 1]
-            value = int(text) if text.isdecimal() and len(text) < SHORT else number_of(text, form)
+            is_short = places == [0] and text.isdecimal() and len(text) < SHORT
+            value = int(text) if is_short else number_of(text, form, places)
             if value is None:
                 raise RefusedTable(TableCause.BAD_NUMBER, row, number)
             cells.append(value)
-    return {name: cells for (_, name), cells in zip(kept, columns)}
+    return {key_of(it.name, some): cells if some == it.places[-1] else [value // 10 ** (it.places[-1] - some) for value in cells]
+            for it, cells in zip(kept, columns) for some in it.places}
 
 
 @dataclass

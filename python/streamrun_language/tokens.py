@@ -17,6 +17,10 @@ TOKEN = re.compile(
     + b'|'.join(re.escape(it.encode()) for it in sorted(SYMBOLS, key=len, reverse=True)) + rb')|(?P<BAD>.)', re.S)
 
 
+# The most decimal places that a column is looked at with.
+MOST_PLACES = 18
+
+
 class Kind(Enum):
     """The kinds of tokens. A bad byte is a token, but no grammar has a place for it."""
 
@@ -63,6 +67,16 @@ def stands_nowhere(token: Token) -> bool:
     return token.kind is Kind.BAD or has_zeros(token) or token.text in ('++', '--')
 
 
+def places_of(text: str) -> Optional[int]:
+    """The number of decimal places that a text spells, or None."""
+    return int(text) if text in map(str, range(MOST_PLACES + 1)) else None
+
+
+def key_of(name: str, places: int) -> str:
+    """The name of a column as it is looked at with decimal places: its own without any. No job names a column with a quote."""
+    return f'{name}"{places}' if places else name
+
+
 class Reader:
     """Reads tokens from the left. Each step takes only tokens with which the text can still be completed, so the token
     that is refused is the first one with which it can't."""
@@ -106,3 +120,13 @@ class Reader:
             self.refuse(wanted)
         self.next += 1
         return token
+
+    def places(self) -> int:
+        """The number of decimal places after the name of a column, if one stands there."""
+        if not self.has(','):
+            return 0
+        found = places_of(self.peek() or '')
+        if found is None:
+            self.refuse(Wanted.PLACES)
+        self.next += 1
+        return found

@@ -309,6 +309,16 @@ class Failures(unittest.TestCase):
         refused = self.failure(streamrun.JobsRefused, jobs, {'p': [4]}, language=3)
         self.assertEqual(refused.line, 'streamrun: jobs: line 2: unknown column')
 
+    def test_decimals_are_read_with_places(self):
+        jobs = 'version 3\na = column("p", 2).toArray()\nb = column("q").map(q -> q * cell("p", 2)).sum()'
+        report = run(jobs, {'p': [12.5, decimal.Decimal('-0.25'), 3], 'q': [4, 2, 1]}, language=3)
+        self.assertEqual((list(report['a']), report['b']), ([1250, -25, 300], 5250))
+        refused = self.failure(streamrun.ColumnsRefused, jobs, {'p': [0.125], 'q': [4]}, language=3)
+        self.assertEqual(refused.line, 'streamrun: columns: bad number in row 1 column 1')
+        for missing in (None, float('nan'), True, '1.5'):
+            refused = self.failure(streamrun.TableError, jobs, {'p': [1.5, missing], 'q': [1, 2]}, language=3)
+            self.assertIn(f"column 'p' has {missing!r} in row 2", str(refused))
+
     def test_a_refused_column_file_has_them_too(self):
         with tempfile.NamedTemporaryFile('w', suffix='.csv') as file:
             file.write('a,b\n1,2\n3,x\n')

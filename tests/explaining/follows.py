@@ -4,10 +4,11 @@ import re
 import shlex
 import shutil
 import tempfile
+from decimal import Decimal
 
 from running import LANGUAGES, TOP, run as ran, table_of, write
 from streamrun_language import explain, model, table_view
-from streamrun_language.tables import form_for, read_columns
+from streamrun_language.tables import SIGNS, form_for, read_columns, records_of, text_of
 
 from . import cases, first_tries, tables, whole_tables
 
@@ -95,6 +96,24 @@ def wrong_whole_tables(program=''):
         found = explain.explain_jobs(cases.naming_all(text.encode()), text.encode())
         if not found or not all(word in found.hint for word in words):
             yield f'{text!r}: {found}'
+
+
+def wrong_places():
+    """What is wrong with columns that hints look at with decimal places: a job does it, and has their sum."""
+    for text in [text for text, _ in whole_tables.ROWS] + [text for text, _ in whole_tables.BY_HAND]:
+        data = text.encode()
+        view = table_view.look_at(data)
+        for column in view.columns:
+            found = re.fullmatch(r'column\("(.*)", (\d+)\)', column.with_places())
+            if not found or column.missing or column.odd or view.above or view.has_totals:
+                continue
+            at = next(number for number, name in enumerate(view.columns) if name is column)
+            cells = [record[at] for record in list(records_of(text_of(data), view.separator))[1:]]
+            total = sum(int(Decimal(cell.strip()).scaleb(int(found[2]))) for cell in cells)
+            got = model.outcome(f'version 3\nj = {found[0]}.sumExact()\n'.encode(), data, newest=3,
+                                table={'only_named': True, 'separator': SIGNS[view.separator]})
+            if got != (f'j = {total}\n'.encode(), b'', 0):
+                yield f'{text[:90]!r}: {found[0]} {got} {total}'
 
 
 def wrong_view():

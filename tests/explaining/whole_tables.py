@@ -106,7 +106,7 @@ BY_HAND = [
     ('id,note,qty\n1,red, blue,5\n2,green,6\n', ['double quotes around the cell']),
     ('id,qty\n1,1,234\n2,6\n', ['inside a number']),
     ('id,n\n1,18446744073709551616\n2,5\n', ['64 bits', 'larger unit']),
-    ('id,n\n1,9007199254740993.5\n2,5\n', ['2^53', 'larger unit']),
+    ('id,n\n1,9007199254740993.5\n2,5\n', ['column("n", 1)', '2^53', 'larger unit']),
     ('id,n\n1,9007199254740993.0\n2,5\n', ['2^53', 'larger unit']),
     ('id,day\n1,01/02/2024\n', ['is the day first', '%d/%m/%Y']),
 ]
@@ -118,7 +118,7 @@ the last row has totals
 
   id: integers
   day: dates, %Y-%m-%d
-  price: decimals, 2 places, 1 blank from row 3 on
+  price: decimals, 2 places, by column("price", 2), 1 blank from row 3 on
   name: text
   qty: integers, 1 blank from row 1 on, in row 3 "x"
 

@@ -22,6 +22,10 @@ MORE_NAMES = [b'say "x"', b'"', b'two\nlines', b'a\rb', b'a', b'b']
 BLANKS = [b'', b'', b'', b' ', b'\t', b'  ', b' \t']
 NUMBERS = [0, 1, -1, 9, 10, 99999999, 10 ** 16, MAX, MIN]
 FILLED = [None, None, 0, 0, 1, -1, MIN, MAX]
+ODD_DECIMALS = [b'5.', b'.', b'-.', b'1.2.3', b'1. 5', b'1e2', b'.5-', b'+-.5', b'1.2345']
+LONG_DECIMALS = [b'92233720368547758', b'-92233720368547758', b'9', b'-9', b'10000000000000000000000']
+FRACTIONS = [b'5', b'05', b'50', b'07', b'08', b'125', b'999999999999999999']
+PLACES = [[2], [2], [2], [1], [2, 3], [1, 2, 2, 18], [0, 2]]
 LINE_ENDS = [b'\n', b'\n', b'\n', b'\r\n', b'\r', b'\n\n', b'\r\n\r\n']
 TERMINALS = ['toArray()', 'toArray()', 'sum()', 'count()', 'min()', 'max()']
 MARK = b'\xef\xbb\xbf'
@@ -46,6 +50,7 @@ class TableWriter:
         self.random = chance
         self.sign = self.pick(',', ',', ';', ';', '|', '\t')
         self.blank = self.random.choice(FILLED)
+        self.uses_places, self.places = self.often(0.4), self.random.choice(PLACES)
         self.width = self.pick(1, 1, 2, 3, 3, 4, 5, 8)
         self.named = self.random.sample(NAMES, min(self.width, self.pick(0, 1, 1, 2, 2, 3)))
         if self.often(0.03):
@@ -82,8 +87,19 @@ class TableWriter:
         text = self.some_bytes(most).translate(None, b'\r\n' + self.sign.encode())
         return text.lstrip(b'"')
 
+    def decimal(self):
+        """A cell with a point, for a column that some job looks at with decimal places."""
+        if self.often(0.02):
+            return self.random.choice(ODD_DECIMALS)
+        whole = self.pick(b'', b'0', b'7', b'007', b'-', b'+3', b'-12', self.random.choice(LONG_DECIMALS))
+        fraction = self.random.choice(FRACTIONS)[:max(self.places) if self.often(0.02) else min(self.places)]
+        return whole + b'.' + fraction if fraction else whole.strip(b'+-') + b'4'
+
     def number(self):
         """A cell that a job looks at."""
+        if self.uses_places and self.often(0.4):
+            text = self.decimal()
+            return text if self.often(0.8) else self.in_quotes(text)
         if self.often(0.12):
             text = self.random.choice(BLANKS)
             return self.in_quotes(text) if self.sign == '\t' or self.often(0.3) else text
@@ -134,6 +150,12 @@ class TableWriter:
         data = self.written()
         return self.damaged(data) if self.often(0.2) else data
 
+    def named_column(self, column):
+        """The name of a column as a job has it, with decimal places or without."""
+        if not self.uses_places or self.often(0.04):
+            return b'"%s"' % column
+        return b'"%s"%s,%s%d' % (column, self.pick(b'', b' '), self.pick(b'', b' ', b' \t'), self.random.choice(self.places))
+
     def wide_job(self, name, columns):
         """A job over several columns."""
         return b'%s = concat(%s).sum()\n' % (name, b', '.join(b'column("%s")' % column for column in columns))
@@ -141,7 +163,7 @@ class TableWriter:
     def job(self, name, column):
         """A job over a column."""
         stage = self.pick(b'', b'', b'.filter(x -> x != 1)', b'\n  .map(x -> x ^ 1)', b'\n# column("b")\n  .filter(x -> x > 0)')
-        return b'%s = column("%s")%s.%s\n' % (name, column, stage, self.random.choice(TERMINALS).encode())
+        return b'%s = column(%s)%s.%s\n' % (name, self.named_column(column), stage, self.random.choice(TERMINALS).encode())
 
     def job_file(self, newest):
         """The bytes of the job file, a few of them refused."""
@@ -152,7 +174,8 @@ class TableWriter:
         else:
             lines += [self.job(b'j%d' % at, column) for at, column in enumerate(self.named)]
         if newest == LANGUAGES[-1] and self.named:
-            lines.append(b'r = column("%s").map(x -> cell("%s")).toArray()\n' % (self.random.choice(self.named), self.random.choice(self.named)))
+            over, of = (self.named_column(self.random.choice(self.named)) for _ in range(2))
+            lines.append(b'r = column(%s).map(x -> cell(%s)).toArray()\n' % (over, of))
         if self.often(0.1):
             lines.append(self.pick(b'k = column("n").count()\n', b'k = column("a).sum()\n', b'k = column("b").sum(\n', b'k = range(0, 3).sum()\n',
                                    b'"a" "b"\n', b'k = of(1)\n .sum("c\n .b")\n', b'\xff = column("x,y").sum()\n', MARK))
@@ -165,6 +188,7 @@ def generate(seed, index):
     """A random table with its job file."""
     writer = TableWriter(random.Random(f'tables {seed}/{index}'))
     newest = writer.pick(*LANGUAGES)
+    writer.uses_places = writer.uses_places and (newest == LANGUAGES[-1] or writer.often(0.1))
     table = {'only_named': writer.often(0.85), 'separator': SIGNS[writer.sign] if writer.often(0.97) else ',', 'blank': writer.blank}
     return Case(writer.job_file(newest), writer.table(), newest, table)
 

@@ -13,12 +13,12 @@ use Rattle.columns.specs.declared.fault.ColumnFault.{ColumnFault}
 use Rattle.columns.specs.declared.fault.ColumnFault.TheVariants as fault
 use Rattle.columns.specs.declared.layout.Layout.{Layout}
 use Rattle.columns.specs.Fronts.{ArePutUnder, Goes, IsAnswerOf, IsFront, IsPutBy, IsReadWhole, fault_by, kept_rows}
-use Rattle.columns.specs.Layouts.{AreReadBy, IsAnswerBy, IsLayout, records_in}
+use Rattle.columns.specs.Layouts.{AreReadBy, IsAnswerBy, IsLayout, looks_in, records_in}
 use Rattle.columns.specs.Pieces.{cells_at}
 use Rattle.columns.specs.Refusals.{header_fault}
 use Rattle.columns.specs.Table.{columns_under, first_number}
 use Rattle.tables.specs.Table.{NamedColumn}
-use Rattle.columns.specs.TableForms.{AbstractForm, cells_by, config_of, filled_rows, kept, table_by}
+use Rattle.columns.specs.TableForms.{AbstractForm, cells_by, config_of, filled_rows, kept, kept_names, table_by}
 use Rattle.columns.specs.TextRows.{AreRowsIn, EndsFirst, HaveRows}
 use Rattle.columns.proofs.FileLemmas.{table_bad, table_good}
 use Rattle.columns.proofs.MarkLemmas.{strip_bom-more}
@@ -37,9 +37,9 @@ cells_of_first (name ∷ names) rows h = length-map rows first_number
 rows_so_far : (form : AbstractForm) (l : Layout) (text left : List ℕ) (columns : List NamedColumn) (f : IsFront form l text left columns) → 0 < length columns
     → length (cells_at columns 0) ≡ length (filled_rows l.blank f.rows)
 rows_so_far form l text left columns f h =
-    let under = f.put ∙ with_rows-columns_under (kept l.marks.items f.header) [] (kept_rows l f.rows) in
-    ap (λ c. length (cells_at c 0)) under ∙ cells_of_first (kept l.marks.items f.header) (kept_rows l f.rows) (rw under at h)
-    ∙ length-map (filled_rows l.blank f.rows) (kept l.marks.items)
+    let under = f.put ∙ with_rows-columns_under (kept_names (looks_in l) f.header) [] (kept_rows l f.rows) in
+    ap (λ c. length (cells_at c 0)) under ∙ cells_of_first (kept_names (looks_in l) f.header) (kept_rows l f.rows) (rw under at h)
+    ∙ length-map (filled_rows l.blank f.rows) (kept (looks_in l))
 
 -- columns without rows
 pub HaveRows-under : (names : List (List ℕ)) → HaveRows 0 (columns_under names [])
@@ -55,8 +55,8 @@ header_is s text end first header rows (s2, zs, (p, found, same, others), none) 
     ap (λ (q : Read). q.0) one ∙ sym same
 
 pub IsFront-header : (form : AbstractForm) (l : Layout) (bytes : List ℕ) (end : ℕ) (header : List (List ℕ)) (rows : List (List (List ℕ))) (columns : List NamedColumn)
-    → EndsFirst form.separator (strip_bom bytes) end → records_in form.separator bytes ≡ header ∷ rows → IsLayout form l header → header_fault (kept l.marks.items header) ≡ None
-    → columns ≡ columns_under (kept l.marks.items header) [] → IsFront form l (strip_bom bytes) (drop end (strip_bom bytes)) columns
+    → EndsFirst form.separator (strip_bom bytes) end → records_in form.separator bytes ≡ header ∷ rows → IsLayout form l header → header_fault (kept_names (looks_in l) header) ≡ None
+    → columns ≡ columns_under (kept_names (looks_in l) header) [] → IsFront form l (strip_bom bytes) (drop end (strip_bom bytes)) columns
 IsFront-header form l bytes end header rows columns first split is fits under =
     let s = form.separator in
     let text = strip_bom bytes in
@@ -84,8 +84,8 @@ IsFront-more form l text xs ys a b f read = record {
   layout = f.layout;
   reads = λ rest more r. rw (append_assoc f.rows read.rows more) (f.reads rest (read.rows ++ more) (read.reads rest more r));
   fits = f.fits;
-  good = fault_more l.marks.items l.blank 1 f.rows read.rows f.good ∙ read.good (1 + length (filled_rows l.blank f.rows));
-  put = rows_more l.marks.items l.blank (columns_under (kept l.marks.items f.header) []) a b f.rows read.rows f.put read.put;
+  good = fault_more (looks_in l) l.blank 1 f.rows read.rows f.good ∙ read.good (1 + length (filled_rows l.blank f.rows));
+  put = rows_more (looks_in l) l.blank (columns_under (kept_names (looks_in l) f.header) []) a b f.rows read.rows f.put read.put;
 }
 
 -- bytes after it
@@ -108,8 +108,8 @@ IsFront-records form l text left a b (Ok u) some f put all are =
     let more = records (config_of s) left in
     let (none_bad, under) = put more (rows_of_text s left) in
     let number : length (cells_at a 0) + 1 ≡ 1 + length (filled_rows l.blank f.rows) = omega (arith, rows_so_far form l text left a f some) in
-    let good : fault_by l 1 (f.rows ++ more) ≡ None = fault_more l.marks.items l.blank 1 f.rows more f.good ∙ rw number at none_bad in
-    let columns = rows_more l.marks.items l.blank (columns_under (kept l.marks.items f.header) []) a b f.rows more f.put under in
+    let good : fault_by l 1 (f.rows ++ more) ≡ None = fault_more (looks_in l) l.blank 1 f.rows more f.good ∙ rw number at none_bad in
+    let columns = rows_more (looks_in l) l.blank (columns_under (kept_names (looks_in l) f.header) []) a b f.rows more f.put under in
     let are_here : AreRowsIn s text all = rw f.layout.separator are in
     let read : AreRowsIn s text (f.header ∷ (f.rows ++ more)) = rw (append-nil text) at (f.reads [] more (rw (append-nil left) (rows_of_text s left))) in
     ap (table_by form) (AreRowsIn-same s text all (f.header ∷ (f.rows ++ more)) are_here read) ∙ table_good form l f.header (f.rows ++ more) b f.layout f.fits good columns
@@ -118,7 +118,7 @@ IsFront-records form l text left a b (Err cause) some f put all are = λ no_read
     let more = records (config_of s) left in
     let bad = put more (rows_of_text s left) no_memory in
     let number : length (cells_at a 0) + 1 ≡ 1 + length (filled_rows l.blank f.rows) = omega (arith, rows_so_far form l text left a f some) in
-    let first : fault_by l 1 (f.rows ++ more) ≡ Some cause = fault_more l.marks.items l.blank 1 f.rows more f.good ∙ rw number at bad in
+    let first : fault_by l 1 (f.rows ++ more) ≡ Some cause = fault_more (looks_in l) l.blank 1 f.rows more f.good ∙ rw number at bad in
     let are_here : AreRowsIn s text all = rw f.layout.separator are in
     let read : AreRowsIn s text (f.header ∷ (f.rows ++ more)) = rw (append-nil text) at (f.reads [] more (rw (append-nil left) (rows_of_text s left))) in
     ap (table_by form) (AreRowsIn-same s text all (f.header ∷ (f.rows ++ more)) are_here read) ∙ table_bad form l f.header (f.rows ++ more) cause f.layout f.fits first

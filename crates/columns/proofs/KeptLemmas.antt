@@ -1,142 +1,205 @@
--- Marks, and the cells in marked places of a row.
-use Rattle.std.proofs.Common.{◌≡◌, ◌<◌, ◌≤◌, ◌+◌, ◌++◌, ◌∷◌, ◌∙◌, ◌||◌, ◌==◌, not, [], ℕ, ℤ, zero, suc, List, Bool, true, false, Option, Some, None, refl, sym, ap, inl, inr, arith, length, map, take, drop, get_or, set, if◌then◌else◌}
-use Rattle.std.proofs.lemmas.List.{append-nil, drop_more, get_or-map, length-take, take_more}
+-- Looks at the columns of a header, and the cells of a row as these read them.
+use Rattle.std.proofs.Common.{◌≡◌, ◌<◌, ◌≤◌, ◌+◌, ◌++◌, ◌∷◌, ◌∙◌, ◌==◌, [], ℕ, ℤ, zero, suc, List, true, false, Some, None, refl, sym, ap, inl, inr, arith, append_assoc, length, map, take, drop, get_or, set, if◌then◌else◌}
+use Rattle.std.proofs.Math.Seq.{drop-append-add, take-append-add}
+use Rattle.std.proofs.lemmas.List.{append-nil, drop_more, length-append, length-map, length-take, map_push, take_more}
+use Rattle.std.proofs.lemmas.List.Folds.{list_all-append}
 use Rattle.std.proofs.lemmas.Bool.{cases_Bool}
 use Rattle.std.proofs.lemmas.Bool.Decides.{nat_tests}
-use Rattle.std.proofs.lemmas.Option.{slice_get-get_or}
-use Rattle.std.specs.Prelude.{is_some, option_and_then, slice_get}
+use Rattle.std.specs.Prelude.{is_some}
+use Rattle.job_names.specs.ColumnKeys.{key_of}
 use Rattle.columns.specs.declared.fault.ColumnFault.TheVariants.{BadNumber}
 use Rattle.tables.specs.declared.table.Column.{Column}
+use Rattle.columns.specs.Decimals.{scaled}
 use Rattle.columns.specs.Number.{number_of}
 use Rattle.tables.specs.Table.{NamedColumn}
-use Rattle.columns.specs.TableForms.{filled, kept, kept_fault, row_fault_in}
+use Rattle.columns.specs.TableForms.{is_good, kept, kept_fault, kept_names, row_fault_in, seen}
 use Rattle.columns.specs.TableOfColumns.{with_row}
 use Rattle.tables.specs.TableOfColumns.{named}
-use Rattle.columns.specs.TextRows.{marked}
+use Rattle.columns.specs.TextRows.{IsCellPut, look_count}
 use Rattle.columns.proofs.RowLemmas.{put_more}
 
--- marks and cells, one more of each
-pub kept_more : (marks : List Bool) (m : Bool) (cells : List (List ℕ)) (cell : List ℕ) → length cells ≡ length marks
-    → kept (marks ++ m ∷ []) (cells ++ cell ∷ []) ≡ kept marks cells ++ (if m then cell ∷ [] else [])
-kept_more [] true [] cell h = refl
-kept_more [] false [] cell h = refl
+-- looks and cells, one more of each
+pub kept_more : (looks : List (List ℕ)) (m : List ℕ) (cells : List (List ℕ)) (cell : List ℕ) → length cells ≡ length looks
+    → kept (looks ++ m ∷ []) (cells ++ cell ∷ []) ≡ kept looks cells ++ seen m cell
+kept_more [] m [] cell h = append-nil (seen m cell)
 kept_more [] m (d ∷ cells) cell h = cc h
-kept_more (x ∷ marks) m [] cell h = cc h
-kept_more (true ∷ marks) m (d ∷ cells) cell h = ap (λ l. d ∷ l) (kept_more marks m cells cell (omega (arith, h)))
-kept_more (false ∷ marks) m (d ∷ cells) cell h = kept_more marks m cells cell (omega (arith, h))
+kept_more (x ∷ looks) m [] cell h = cc h
+kept_more (x ∷ looks) m (d ∷ cells) cell h =
+    ap (λ l. seen x d ++ l) (kept_more looks m cells cell (omega (arith, h))) ∙ sym (append_assoc (seen x d) (kept looks cells) (seen m cell))
 
-pub length-kept : (marks : List Bool) (cells : List (List ℕ)) → length cells ≡ length marks → length (kept marks cells) ≡ marked marks
+pub length-seen : (m : List ℕ) (cell : List ℕ) → length (seen m cell) ≡ length m
+length-seen m cell = length-map m (λ p. scaled p cell)
+
+pub length-kept : (looks : List (List ℕ)) (cells : List (List ℕ)) → length cells ≡ length looks → length (kept looks cells) ≡ look_count looks
 length-kept [] cells h = refl
-length-kept (m ∷ marks) [] h = cc h
-length-kept (true ∷ marks) (d ∷ cells) h = ap suc (length-kept marks cells (omega (arith, h)))
-length-kept (false ∷ marks) (d ∷ cells) h = length-kept marks cells (omega (arith, h))
+length-kept (m ∷ looks) [] h = cc h
+length-kept (m ∷ looks) (d ∷ cells) h = omega (arith, length-append (seen m d) (kept looks cells), length-seen m d, length-kept looks cells (omega (arith, h)))
 
-pub kept_fault_more : (marks : List Bool) (m : Bool) (r c : ℕ) (cells : List (List ℕ)) (cell : List ℕ) → length cells ≡ length marks
-    → (not m || is_some (number_of cell)) ≡ true → kept_fault marks r c cells ≡ None → kept_fault (marks ++ m ∷ []) r c (cells ++ cell ∷ []) ≡ None
+pub length-kept_names : (looks : List (List ℕ)) (names : List (List ℕ)) → length names ≡ length looks → length (kept_names looks names) ≡ look_count looks
+length-kept_names [] names h = refl
+length-kept_names (m ∷ looks) [] h = cc h
+length-kept_names (m ∷ looks) (n ∷ names) h =
+    omega (arith, length-append (map (key_of n) m) (kept_names looks names), length-map m (key_of n), length-kept_names looks names (omega (arith, h)))
+
+pub kept_fault_more : (looks : List (List ℕ)) (m : List ℕ) (r c : ℕ) (cells : List (List ℕ)) (cell : List ℕ) → length cells ≡ length looks
+    → is_good m cell ≡ true → kept_fault looks r c cells ≡ None → kept_fault (looks ++ m ∷ []) r c (cells ++ cell ∷ []) ≡ None
 kept_fault_more [] m r c [] cell h is good = rw is refl
 kept_fault_more [] m r c (d ∷ cells) cell h is good = cc h
-kept_fault_more (x ∷ marks) m r c [] cell h is good = cc h
-kept_fault_more (x ∷ marks) m r c (d ∷ cells) cell h is good = elim (cases_Bool (not x || is_some (number_of d))) [
-  | inl here ↦ rw here (kept_fault_more marks m r (c + 1) cells cell (omega (arith, h)) is (rw here at good))
+kept_fault_more (x ∷ looks) m r c [] cell h is good = cc h
+kept_fault_more (x ∷ looks) m r c (d ∷ cells) cell h is good = elim (cases_Bool (is_good x d)) [
+  | inl here ↦ rw here (kept_fault_more looks m r (c + 1) cells cell (omega (arith, h)) is (rw here at good))
   | inr other ↦ cc (rw other at good)
 ]
 
-pub marked_more : (marks : List Bool) (m : Bool) → marked (marks ++ m ∷ []) ≡ (if m then suc (marked marks) else marked marks)
-marked_more [] m = refl
-marked_more (true ∷ marks) true = ap suc (marked_more marks true)
-marked_more (true ∷ marks) false = ap suc (marked_more marks false)
-marked_more (false ∷ marks) m = marked_more marks m
+pub look_count-more : (looks : List (List ℕ)) (m : List ℕ) → look_count (looks ++ m ∷ []) ≡ look_count looks + length m
+look_count-more [] m = omega arith
+look_count-more (x ∷ looks) m = omega (arith, look_count-more looks m)
 
--- of the marks up to a place
-pub marked_up : (marks : List Bool) (i : ℕ) (m : Bool) → i < length marks → get_or marks i false ≡ m → marked (take (i + 1) marks) ≡ (if m then suc (marked (take i marks)) else marked (take i marks))
-marked_up marks i m h is = ap marked (take_more marks i false h) ∙ ap (λ b. marked (take i marks ++ b ∷ [])) is ∙ marked_more (take i marks) m
+pub looks_more : (looks : List (List ℕ)) (i : ℕ) (m : List ℕ) → i < length looks → get_or looks i [] ≡ m → take (i + 1) looks ≡ take i looks ++ m ∷ []
+looks_more looks i m h is = take_more looks i [] h ∙ ap (λ l. take i looks ++ l ∷ []) is
 
-marked-le : (marks : List Bool) (i : ℕ) → marked (take i marks) ≤ marked marks
-marked-le marks zero = omega arith
-marked-le [] (suc i) = omega arith
-marked-le (true ∷ marks) (suc i) = omega (arith, marked-le marks i)
-marked-le (false ∷ marks) (suc i) = marked-le marks i
+-- of the looks up to a place
+pub look_count_up : (looks : List (List ℕ)) (i : ℕ) (m : List ℕ) → i < length looks → get_or looks i [] ≡ m → look_count (take (i + 1) looks) ≡ look_count (take i looks) + length m
+look_count_up looks i m h is = ap look_count (looks_more looks i m h is) ∙ look_count-more (take i looks) m
 
--- a marked place has a column
-pub marked_room : (marks : List Bool) (i : ℕ) → i < length marks → get_or marks i false ≡ true → marked (take i marks) < marked marks
-marked_room marks i h is = omega (arith, marked-le marks (i + 1), marked_up marks i true h is)
+pub look_count-le : (looks : List (List ℕ)) (i : ℕ) → look_count (take i looks) ≤ look_count looks
+look_count-le looks zero = omega arith
+look_count-le [] (suc i) = omega arith
+look_count-le (m ∷ looks) (suc i) = omega (arith, look_count-le looks i)
+
+-- each look has a column
+pub look_room : (looks : List (List ℕ)) (i : ℕ) (m : List ℕ) → i < length looks → get_or looks i [] ≡ m → look_count (take i looks) + length m ≤ look_count looks
+look_room looks i m h is = omega (arith, look_count-le looks (i + 1), look_count_up looks i m h is)
 
 pub same_length : (a b : ℕ) → a ≡ b → (a == b) ≡ true
 same_length a b e = grind (arith, nat_tests, e)
 
-pub marked-length : (marks : List Bool) → marked marks ≤ length marks
-marked-length [] = omega arith
-marked-length (true ∷ marks) = omega (arith, marked-length marks)
-marked-length (false ∷ marks) = omega (arith, marked-length marks)
+-- a header with a look has a column
+pub some_look : (looks : List (List ℕ)) → 0 < look_count looks → 0 < length looks
+some_look [] h = absurd (omega (arith, h))
+some_look (m ∷ looks) h = omega arith
 
--- the cells in the marked places so far
-pub kept_up : (marks : List Bool) (cells : List (List ℕ)) (i : ℕ) (m : Bool) → length cells ≡ length marks → i < length marks → get_or marks i false ≡ m
-    → kept (take (i + 1) marks) (take (i + 1) cells) ≡ (if m then kept (take i marks) (take i cells) ++ get_or cells i [] ∷ [] else kept (take i marks) (take i cells))
-kept_up marks cells i m wide room is =
-    let front : length (take i cells) ≡ length (take i marks) = omega (arith, length-take i cells, length-take i marks, wide, room) in
-    rw (take_more marks i false room, take_more cells i [] (omega (arith, wide, room)), is) (kept_more (take i marks) m (take i cells) (get_or cells i []) front ∙ both m)
-  where
-    both : (m : Bool) → kept (take i marks) (take i cells) ++ (if m then get_or cells i [] ∷ [] else [])
-        ≡ (if m then kept (take i marks) (take i cells) ++ get_or cells i [] ∷ [] else kept (take i marks) (take i cells))
-    both true = refl
-    both false = append-nil (kept (take i marks) (take i cells))
+-- keys, one name more
+names_more : (looks : List (List ℕ)) (m : List ℕ) (names : List (List ℕ)) (name : List ℕ) → length names ≡ length looks
+    → kept_names (looks ++ m ∷ []) (names ++ name ∷ []) ≡ kept_names looks names ++ map (key_of name) m
+names_more [] m [] name h = append-nil (map (key_of name) m)
+names_more [] m (d ∷ names) name h = cc h
+names_more (x ∷ looks) m [] name h = cc h
+names_more (x ∷ looks) m (d ∷ names) name h =
+    ap (λ l. map (key_of d) x ++ l) (names_more looks m names name (omega (arith, h))) ∙ sym (append_assoc (map (key_of d) x) (kept_names looks names) (map (key_of name) m))
+
+pub kept_names_up : (looks : List (List ℕ)) (names : List (List ℕ)) (i : ℕ) (m : List ℕ) → length names ≡ length looks → i < length looks → get_or looks i [] ≡ m
+    → kept_names (take (i + 1) looks) (take (i + 1) names) ≡ kept_names (take i looks) (take i names) ++ map (key_of (get_or names i [])) m
+kept_names_up looks names i m wide room is =
+    let front : length (take i names) ≡ length (take i looks) = omega (arith, length-take i names, length-take i looks, wide, room) in
+    rw (looks_more looks i m room is, take_more names i [] (omega (arith, wide, room))) (names_more (take i looks) m (take i names) (get_or names i []) front)
+
+-- ---- a cell, number by number
+
+pub IsCellPut-none : (cell : List ℕ) (before : List NamedColumn) → IsCellPut [] cell before before
+IsCellPut-none cell before = record { good = refl; put = λ more. refl }
+
+-- a number more under its column
+pub IsCellPut-more : (m : List ℕ) (p : ℕ) (cell : List ℕ) (before : List NamedColumn) (columns : List Column) (count : ℕ) (c a : Column) (n : ℤ) → IsCellPut m cell before (map named columns)
+    → count ≡ length m → count < length columns → number_of (scaled p cell) ≡ Some n → c ≡ get_or columns count c
+    → named a ≡ record { name = c.name.items; cells = c.cells.items ++ n ∷ [] } → IsCellPut (m ++ p ∷ []) cell before (map named (set columns count a))
+IsCellPut-more m p cell before columns count c a n so_far which within number here grown =
+    let some : is_some (number_of (scaled p cell)) ≡ true = rw number refl in
+    let width : length (m ++ p ∷ []) ≡ count + 1 = omega (arith, length-append m (p ∷ []), which) in
+    let all_seen : seen (m ++ p ∷ []) cell ≡ seen m cell ++ scaled p cell ∷ [] = map_push (λ q. scaled q cell) m p in
+    let before_put = rw (sym which) at so_far.put in
+    record {
+      good = list_all-append (λ q. is_some (number_of (scaled q cell))) m (p ∷ []) ∙ rw (so_far.good, some) refl;
+      put = λ more. rw (width, all_seen) (put_more columns (seen m cell) (scaled p cell) more count c a n within (length-seen m cell ∙ sym which) number here grown
+          ∙ before_put (scaled p cell ∷ more) ∙ ap (with_row before) (sym (append_assoc (seen m cell) (scaled p cell ∷ []) more)));
+    }
+
+-- one look that reads no number makes the cell bad
+pub bad_look : (m : List ℕ) (i : ℕ) (cell : List ℕ) → i < length m → number_of (scaled (get_or m i 0) cell) ≡ None → is_good m cell ≡ false
+bad_look [] i cell h none = absurd (omega (arith, h))
+bad_look (p ∷ m) zero cell h none = rw none refl
+bad_look (p ∷ m) (suc i) cell h none = elim (cases_Bool (is_some (number_of (scaled p cell)))) [
+  | inl some ↦ rw some (bad_look m i cell (omega (arith, h)) none)
+  | inr other ↦ rw other refl
+]
 
 -- ---- a row, cell by cell
 
--- the number of the cell in a place, written out if it is blank
-pub number_in : (b : Option ℤ) (fields : List (List ℕ)) (i : ℕ) (o : Option ℤ) → i < length fields → option_and_then (λ cell. number_of (filled b cell)) (slice_get fields i) ≡ o
-    → number_of (get_or (map (filled b) fields) i []) ≡ o
-number_in b fields i o h e = rw (get_or-map (filled b) fields i [] [] h) (rw (slice_get-get_or fields i [] h) at e)
+-- columns of which those from some place on are others
+pub joined_put : (now sub : List NamedColumn) (column k : ℕ) (rest : List (List ℕ)) → column ≤ length now
+    → take (column + k) (take column now ++ sub) ++ with_row (drop (column + k) (take column now ++ sub)) rest ≡ take column now ++ (take k sub ++ with_row (drop k sub) rest)
+joined_put now sub column k rest h =
+    let front = take column now in
+    let long : column ≡ length front = omega (arith, length-take column now, h) in
+    let taken : take (column + k) (front ++ sub) ≡ front ++ take k sub = ap (λ n. take (n + k) (front ++ sub)) long ∙ take-append-add front sub k in
+    let dropped : drop (column + k) (front ++ sub) ≡ drop k sub = ap (λ n. drop (n + k) (front ++ sub)) long ∙ drop-append-add front sub k in
+    rw (taken, dropped) (append_assoc front (take k sub) (with_row (drop k sub) rest))
 
-kept_at : (marks : List Bool) (cells : List (List ℕ)) (i : ℕ) (m : Bool) → i < length marks → i < length cells → get_or marks i false ≡ m
-    → kept (drop i marks) (drop i cells) ≡ (if m then get_or cells i [] ∷ kept (drop (i + 1) marks) (drop (i + 1) cells) else kept (drop (i + 1) marks) (drop (i + 1) cells))
-kept_at marks cells i m h k is = rw (drop_more marks i false h, drop_more cells i [] k, is) refl
+kept_at : (looks : List (List ℕ)) (cells : List (List ℕ)) (i : ℕ) (m : List ℕ) → i < length looks → i < length cells → get_or looks i [] ≡ m
+    → kept (drop i looks) (drop i cells) ≡ seen m (get_or cells i []) ++ kept (drop (i + 1) looks) (drop (i + 1) cells)
+kept_at looks cells i m h k is = rw (drop_more looks i [] h, drop_more cells i [] k, is) refl
 
-kept_fault_at : (marks : List Bool) (cells : List (List ℕ)) (r i : ℕ) (m : Bool) → i < length marks → i < length cells → get_or marks i false ≡ m
-    → kept_fault (drop i marks) r (i + 1) (drop i cells)
-    ≡ (if not m || is_some (number_of (get_or cells i [])) then kept_fault (drop (i + 1) marks) r (i + 1 + 1) (drop (i + 1) cells) else Some (BadNumber r (i + 1)))
-kept_fault_at marks cells r i m h k is = rw (drop_more marks i false h, drop_more cells i [] k, is) refl
+kept_fault_at : (looks : List (List ℕ)) (cells : List (List ℕ)) (r i : ℕ) (m : List ℕ) → i < length looks → i < length cells → get_or looks i [] ≡ m
+    → kept_fault (drop i looks) r (i + 1) (drop i cells)
+    ≡ (if is_good m (get_or cells i []) then kept_fault (drop (i + 1) looks) r (i + 1 + 1) (drop (i + 1) cells) else Some (BadNumber r (i + 1)))
+kept_fault_at looks cells r i m h k is = rw (drop_more looks i [] h, drop_more cells i [] k, is) refl
 
 -- the cells before a place have no fault and stand in their columns; what is left of the row is still to be put
-pub record RowSoFar (marks : List Bool) (cells : List (List ℕ)) (r place column : ℕ) (now before : List NamedColumn) : Type 0 where
-  pub which : column ≡ marked (take place marks)
-  pub faults : kept_fault (drop place marks) r (place + 1) (drop place cells) ≡ kept_fault marks r 1 cells
-  pub put : take column now ++ with_row (drop column now) (kept (drop place marks) (drop place cells)) ≡ with_row before (kept marks cells)
+pub record RowSoFar (looks : List (List ℕ)) (cells : List (List ℕ)) (r place column : ℕ) (now before : List NamedColumn) : Type 0 where
+  pub which : column ≡ look_count (take place looks)
+  pub faults : kept_fault (drop place looks) r (place + 1) (drop place cells) ≡ kept_fault looks r 1 cells
+  pub put : take column now ++ with_row (drop column now) (kept (drop place looks) (drop place cells)) ≡ with_row before (kept looks cells)
 
-pub RowSoFar-none : (marks : List Bool) (cells : List (List ℕ)) (r : ℕ) (before : List NamedColumn) → RowSoFar marks cells r 0 0 before before
-RowSoFar-none marks cells r before = record { which = refl; faults = refl; put = refl }
+pub RowSoFar-none : (looks : List (List ℕ)) (cells : List (List ℕ)) (r : ℕ) (before : List NamedColumn) → RowSoFar looks cells r 0 0 before before
+RowSoFar-none looks cells r before = record { which = refl; faults = refl; put = refl }
 
-pub RowSoFar-text : (marks : List Bool) (cells : List (List ℕ)) (r place column : ℕ) (now before : List NamedColumn) → length cells ≡ length marks → place < length marks
-    → get_or marks place false ≡ false → RowSoFar marks cells r place column now before → RowSoFar marks cells r (place + 1) column now before
-RowSoFar-text marks cells r place column now before wide room is so_far = record {
-  which = so_far.which ∙ sym (marked_up marks place false room is);
-  faults = sym (kept_fault_at marks cells r place false room (omega (arith, wide, room)) is) ∙ so_far.faults;
-  put = ap (λ more. take column now ++ with_row (drop column now) more) (sym (kept_at marks cells place false room (omega (arith, wide, room)) is)) ∙ so_far.put;
-}
-
-pub RowSoFar-number : (marks : List Bool) (cells : List (List ℕ)) (r place column : ℕ) (columns : List Column) (before : List NamedColumn) (c a : Column) (n : ℤ) → length cells ≡ length marks
-    → place < length marks → get_or marks place false ≡ true → column < length columns → number_of (get_or cells place []) ≡ Some n → c ≡ get_or columns column c
-    → named a ≡ record { name = c.name.items; cells = c.cells.items ++ n ∷ [] } → RowSoFar marks cells r place column (map named columns) before
-    → RowSoFar marks cells r (place + 1) (column + 1) (map named (set columns column a)) before
-RowSoFar-number marks cells r place column columns before c a n wide room is within number here grown so_far =
+pub RowSoFar-cell : (looks : List (List ℕ)) (cells : List (List ℕ)) (r place column : ℕ) (now before sub : List NamedColumn) (m : List ℕ) → length cells ≡ length looks → place < length looks
+    → get_or looks place [] ≡ m → column ≤ length now → IsCellPut m (get_or cells place []) (drop column now) sub → RowSoFar looks cells r place column now before
+    → RowSoFar looks cells r (place + 1) (column + length m) (take column now ++ sub) before
+RowSoFar-cell looks cells r place column now before sub m wide room is within cell so_far =
     let in_cells : place < length cells = omega (arith, wide, room) in
-    let front : length (take place cells) ≡ length (take place marks) = omega (arith, length-take place cells, length-take place marks, wide, room) in
-    let long : length (kept (take place marks) (take place cells)) ≡ column = length-kept (take place marks) (take place cells) front ∙ sym so_far.which in
-    let some : is_some (number_of (get_or cells place [])) ≡ true = rw number refl in
-    let one : kept_fault (drop place marks) r (place + 1) (drop place cells) ≡ kept_fault (drop (place + 1) marks) r (place + 1 + 1) (drop (place + 1) cells) =
-    kept_fault_at marks cells r place true room in_cells is ∙ rw some refl in
-    let rest = kept (drop (place + 1) marks) (drop (place + 1) cells) in
-    let now = map named columns in
+    let good = cell.good in
+    let one : kept_fault (drop place looks) r (place + 1) (drop place cells) ≡ kept_fault (drop (place + 1) looks) r (place + 1 + 1) (drop (place + 1) cells) =
+    kept_fault_at looks cells r place m room in_cells is ∙ rw good refl in
+    let rest = kept (drop (place + 1) looks) (drop (place + 1) cells) in
     record {
-      which = omega (arith, so_far.which, marked_up marks place true room is);
+      which = omega (arith, so_far.which, look_count_up looks place m room is);
       faults = sym one ∙ so_far.faults;
-      put = put_more columns (kept (take place marks) (take place cells)) (get_or cells place []) rest column c a n within long number here grown
-          ∙ ap (λ more. take column now ++ with_row (drop column now) more) (sym (kept_at marks cells place true room in_cells is)) ∙ so_far.put;
+      put = joined_put now sub column (length m) rest within ∙ ap (λ l. take column now ++ l) (cell.put rest)
+          ∙ ap (λ more. take column now ++ with_row (drop column now) more) (sym (kept_at looks cells place m room in_cells is)) ∙ so_far.put;
     }
 
-pub RowSoFar-bad : (marks : List Bool) (cells : List (List ℕ)) (r place column : ℕ) (now before : List NamedColumn) → length cells ≡ length marks → place < length marks
-    → get_or marks place false ≡ true → number_of (get_or cells place []) ≡ None → RowSoFar marks cells r place column now before → row_fault_in marks r cells ≡ Some (BadNumber r (place + 1))
-RowSoFar-bad marks cells r place column now before wide room is none so_far =
-    let one : kept_fault (drop place marks) r (place + 1) (drop place cells) ≡ Some (BadNumber r (place + 1)) =
-    kept_fault_at marks cells r place true room (omega (arith, wide, room)) is ∙ rw none refl in
-    rw (same_length (length cells) (length marks) wide) (sym so_far.faults ∙ one)
+pub RowSoFar-bad : (looks : List (List ℕ)) (cells : List (List ℕ)) (r place column : ℕ) (now before : List NamedColumn) (m : List ℕ) → length cells ≡ length looks → place < length looks
+    → get_or looks place [] ≡ m → is_good m (get_or cells place []) ≡ false → RowSoFar looks cells r place column now before → row_fault_in looks r cells ≡ Some (BadNumber r (place + 1))
+RowSoFar-bad looks cells r place column now before m wide room is none so_far =
+    let one : kept_fault (drop place looks) r (place + 1) (drop place cells) ≡ Some (BadNumber r (place + 1)) =
+    kept_fault_at looks cells r place m room (omega (arith, wide, room)) is ∙ rw none refl in
+    rw (same_length (length cells) (length looks) wide) (sym so_far.faults ∙ one)
+
+-- the whole row
+pub RowSoFar-all : (looks : List (List ℕ)) (cells : List (List ℕ)) (r place column : ℕ) (now before : List NamedColumn) → length looks ≤ place → look_count looks ≡ length now
+    → RowSoFar looks cells r place column now before → (kept_fault looks r 1 cells ≡ None) × (now ≡ with_row before (kept looks cells))
+RowSoFar-all looks cells r place column now before past width so_far =
+    let none = drop_end looks place past in
+    let all : column ≡ length now = omega (arith, so_far.which, width, ap look_count (take_end looks place past)) in (
+      sym so_far.faults ∙ rw none refl,
+      sym (append-nil now) ∙ ends now column all ∙ ap (λ l. take column now ++ with_row (drop column now) (kept l (drop place cells))) (sym none) ∙ so_far.put,
+    )
+  where
+    drop_end : (xs : List (List ℕ)) (i : ℕ) → length xs ≤ i → drop i xs ≡ []
+    drop_end [] zero h = refl
+    drop_end [] (suc i) h = refl
+    drop_end (x ∷ xs) zero h = absurd (omega (arith, h))
+    drop_end (x ∷ xs) (suc i) h = drop_end xs i (omega (arith, h))
+
+    take_end : (xs : List (List ℕ)) (i : ℕ) → length xs ≤ i → take i xs ≡ xs
+    take_end [] zero h = refl
+    take_end [] (suc i) h = refl
+    take_end (x ∷ xs) zero h = absurd (omega (arith, h))
+    take_end (x ∷ xs) (suc i) h = ap (λ l. x ∷ l) (take_end xs i (omega (arith, h)))
+
+    ends : (xs : List NamedColumn) (i : ℕ) → i ≡ length xs → xs ++ [] ≡ take i xs ++ with_row (drop i xs) []
+    ends [] zero h = refl
+    ends [] (suc i) h = absurd (omega (arith, h))
+    ends (x ∷ xs) zero h = absurd (omega (arith, h))
+    ends (x ∷ xs) (suc i) h = ap (λ l. x ∷ l) (ends xs i (omega (arith, h)))

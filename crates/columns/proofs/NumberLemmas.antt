@@ -16,7 +16,7 @@ use Rattle.columns.specs.Number.{number_of}
 use Rattle.columns.specs.TableForms.{filled}
 use Rattle.columns.proofs.SpelledNumbers.{SpellsCell-number_of, digit_no_blank, number_of-SpellsCell}
 
-some_list : (ds : List ℕ) → 0 < length ds → ds ≢ []
+pub some_list : (ds : List ℕ) → 0 < length ds → ds ≢ []
 some_list [] h = absurd (omega arith)
 some_list (d ∷ ds) h = λ e. cc e
 
@@ -154,10 +154,10 @@ filled_number (Some m) cell n h = rw (no_blank cell n h) h
 
 -- a number that is written out
 
-abbrev IsWritten : ℕ → List ℕ → Type 0
+abbrev pub IsWritten : ℕ → List ℕ → Type 0
 IsWritten m ds = (0 < length ds) × (list_all is_ascii_digit ds ≡ true) × (digits_value ds ≡ m)
 
-written : (m : ℕ) → m < 2 ^ 64 → IsWritten m (decimal m)
+pub written : (m : ℕ) → m < 2 ^ 64 → IsWritten m (decimal m)
 written = decimal_by_steps IsWritten one more
   where
     digit : (d : ℕ) → d < 10 → is_ascii_digit (48 + d) ≡ true

@@ -12,6 +12,7 @@ use Rattle.csv.specs.declared.reader.Reader.{Reader}
 use Rattle.columns.specs.declared.fault.ColumnFault.{ColumnFault}
 use Rattle.columns.specs.declared.layout.Layout.{Layout}
 use Rattle.columns.specs.Fronts.{fault_by, kept_rows}
+use Rattle.columns.specs.Layouts.{looks_in}
 use Rattle.columns.specs.Records.{GaveNext, IsReading}
 use Rattle.columns.specs.Number.{number_of}
 use Rattle.columns.specs.Refusals.{has_twice}
@@ -41,11 +42,10 @@ has_twice_more columns i d h =
     rw here (ap (λ b. b || has_twice (map (λ c. c.name.items) (drop (i + 1) columns)))
     (list_any_mapped (bytes_eq (get_or columns i d).name.items) (λ c. c.name.items) (drop (i + 1) columns)))
 
--- a column more under a name more
-pub columns_under-append : (names : List (List ℕ)) (name : List ℕ)
-    → columns_under (names ++ name ∷ []) [] ≡ columns_under names [] ++ record { name = name; cells = [] } ∷ []
-columns_under-append [] name = refl
-columns_under-append (n ∷ names) name = ap (λ columns. record { name = n; cells = [] } ∷ columns) (columns_under-append names name)
+-- columns more under names more
+pub columns_under-append : (names more : List (List ℕ)) → columns_under (names ++ more) [] ≡ columns_under names [] ++ columns_under more []
+columns_under-append [] more = refl
+columns_under-append (n ∷ names) more = ap (λ columns. record { name = n; cells = [] } ∷ columns) (columns_under-append names more)
 
 -- the names of the columns under a header are the names of the header
 names_under : (names : List (List ℕ)) → map (λ c. c.name) (columns_under names []) ≡ names
@@ -90,8 +90,8 @@ RowsLeft-end l a b f n now start rows found fields s gave none =
 
 -- a row more is read
 pub RowsLeft-more : (l : Layout) (a b : Reader (Bor (List ℕ))) (f n : ℕ) (now next start : List NamedColumn) (rows : List (List (List ℕ))) (found : Bool) (fields : List (List ℕ))
-    → (s : RowsLeft l f a n now start rows) → GaveNext s.left found fields b → found ≡ true → row_fault_in l.marks.items n (map (filled l.blank) fields) ≡ None
-    → next ≡ with_row now (kept l.marks.items (map (filled l.blank) fields)) → RowsLeft l f b (n + 1) next start rows
+    → (s : RowsLeft l f a n now start rows) → GaveNext s.left found fields b → found ≡ true → row_fault_in (looks_in l) n (map (filled l.blank) fields) ≡ None
+    → next ≡ with_row now (kept (looks_in l) (map (filled l.blank) fields)) → RowsLeft l f b (n + 1) next start rows
 RowsLeft-more l a b f n now next start rows found fields s gave some good put =
     let (others, split, after) = rw some at gave in
     let one : fault_by l n (fields ∷ others) ≡ fault_by l (n + 1) others = rw good refl in
@@ -104,7 +104,7 @@ RowsLeft-more l a b f n now next start rows found fields s gave some good put =
 
 -- a row is no good
 pub RowsLeft-fault : (l : Layout) (a b : Reader (Bor (List ℕ))) (f n : ℕ) (now start : List NamedColumn) (rows : List (List (List ℕ))) (found : Bool) (fields : List (List ℕ)) (fault : ColumnFault)
-    → (s : RowsLeft l f a n now start rows) → GaveNext s.left found fields b → found ≡ true → row_fault_in l.marks.items n (map (filled l.blank) fields) ≡ Some fault
+    → (s : RowsLeft l f a n now start rows) → GaveNext s.left found fields b → found ≡ true → row_fault_in (looks_in l) n (map (filled l.blank) fields) ≡ Some fault
     → fault_by l f rows ≡ Some fault
 RowsLeft-fault l a b f n now start rows found fields fault s gave some bad =
     let (others, split, after) = rw some at gave in

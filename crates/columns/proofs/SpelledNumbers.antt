@@ -9,11 +9,11 @@ use Rattle.std.specs.Char.{is_ascii_digit}
 use Rattle.columns.specs.Cell.{SpellsCell, IsSigned, digits_value, is_blank}
 use Rattle.columns.specs.Number.{drop_blanks, in_range, number_of, signed_digits, signed_number}
 
-both : (a b : Bool) → (a && b) ≡ true → (a ≡ true) × (b ≡ true)
+pub both : (a b : Bool) → (a && b) ≡ true → (a ≡ true) × (b ≡ true)
 both true b h = (refl, h)
 both false b h = cc h
 
-list_all-reverse : (p : ℕ → Bool) (xs : List ℕ) → list_all p xs ≡ true → list_all p (reverse xs) ≡ true
+pub list_all-reverse : (p : ℕ → Bool) (xs : List ℕ) → list_all p xs ≡ true → list_all p (reverse xs) ≡ true
 list_all-reverse p [] h = refl
 list_all-reverse p (x ∷ xs) h =
     let parts = both (p x) (list_all p xs) h in
@@ -21,7 +21,7 @@ list_all-reverse p (x ∷ xs) h =
     rw (e, list_all-append p (reverse xs) (x ∷ []), list_all-reverse p xs parts.1, parts.0) refl
 
 -- a text is the blanks at its start and the rest
-blanks_before : (xs : List ℕ) → (b : List ℕ) × (xs ≡ b ++ drop_blanks xs) × (list_all is_blank b ≡ true)
+pub blanks_before : (xs : List ℕ) → (b : List ℕ) × (xs ≡ b ++ drop_blanks xs) × (list_all is_blank b ≡ true)
 blanks_before [] = ([], refl, refl)
 blanks_before (x ∷ xs) = elim (cases_Bool (is_blank x)) [
   | inl blank ↦
@@ -30,7 +30,7 @@ blanks_before (x ∷ xs) = elim (cases_Bool (is_blank x)) [
   | inr other ↦ ([], rw other refl, refl)
 ]
 
-drop_blanks-blanks : (b xs : List ℕ) → list_all is_blank b ≡ true → drop_blanks (b ++ xs) ≡ drop_blanks xs
+pub drop_blanks-blanks : (b xs : List ℕ) → list_all is_blank b ≡ true → drop_blanks (b ++ xs) ≡ drop_blanks xs
 drop_blanks-blanks [] xs h = refl
 drop_blanks-blanks (x ∷ b) xs h =
     let parts = both (is_blank x) (list_all is_blank b) h in
@@ -56,11 +56,11 @@ in_range-fits : (z : ℤ) → FitsSigned w64 z → in_range z ≡ Some z
 in_range-fits (pos m) f = grind (arith, nat_tests, f.sfits)
 in_range-fits (negsuc m) f = grind (arith, nat_tests, f.sfits)
 
-fits-in_range : (z n : ℤ) → in_range z ≡ Some n → (z ≡ n) × FitsSigned w64 n
+pub fits-in_range : (z n : ℤ) → in_range z ≡ Some n → (z ≡ n) × FitsSigned w64 n
 fits-in_range (pos m) n h = grind (arith, nat_tests)
 fits-in_range (negsuc m) n h = grind (arith, nat_tests)
 
-some_length : (ds : List ℕ) → ds ≢ [] → nat_lt 0 (length ds) ≡ true
+pub some_length : (ds : List ℕ) → ds ≢ [] → nat_lt 0 (length ds) ≡ true
 some_length [] some = absurd (some refl)
 some_length (d ∷ ds) some = grind (arith, nat_tests)
 
@@ -68,10 +68,10 @@ length_some : (ds : List ℕ) → nat_lt 0 (length ds) ≡ true → ds ≢ []
 length_some [] h = λ e. cc h
 length_some (d ∷ ds) h = λ e. cc e
 
-signed_digits-fits : (f : ℕ → ℤ) (ds : List ℕ) → ds ≢ [] → list_all is_ascii_digit ds ≡ true → FitsSigned w64 (f (digits_value ds)) → signed_digits f ds ≡ Some (f (digits_value ds))
+pub signed_digits-fits : (f : ℕ → ℤ) (ds : List ℕ) → ds ≢ [] → list_all is_ascii_digit ds ≡ true → FitsSigned w64 (f (digits_value ds)) → signed_digits f ds ≡ Some (f (digits_value ds))
 signed_digits-fits f ds some h fits = rw (some_length ds some, h) (in_range-fits (f (digits_value ds)) fits)
 
-signed_digits-digits : (f : ℕ → ℤ) (ds : List ℕ) (n : ℤ) → signed_digits f ds ≡ Some n
+pub signed_digits-digits : (f : ℕ → ℤ) (ds : List ℕ) (n : ℤ) → signed_digits f ds ≡ Some n
     → (ds ≢ []) × (list_all is_ascii_digit ds ≡ true) × (f (digits_value ds) ≡ n) × FitsSigned w64 n
 signed_digits-digits f ds n h = elim (cases_Bool (nat_lt 0 (length ds) && list_all is_ascii_digit ds)) [
   | inl good ↦
@@ -101,7 +101,7 @@ signed_number-parts (b ∷ rest) n h = elim (cases_Bool (b == 45)) [
   ]
 ]
 
-digit_no_sign : (d : ℕ) → is_ascii_digit d ≡ true → ((d == 45) ≡ false) × ((d == 43) ≡ false)
+pub digit_no_sign : (d : ℕ) → is_ascii_digit d ≡ true → ((d == 45) ≡ false) × ((d == 43) ≡ false)
 digit_no_sign d h = (grind (arith, nat_tests), grind (arith, nat_tests))
 
 -- and the other way round

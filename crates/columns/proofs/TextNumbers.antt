@@ -1,5 +1,5 @@
 -- Numbers that stand in a text, for any separator.
-use Rattle.std.proofs.Common.{◌≡◌, ◌<◌, ◌≤◌, ◌+◌, ◌-◌, ◌++◌, ◌∷◌, ◌∙◌, ◌==◌, [], ℕ, ℤ, zero, suc, List, Bool, true, false, Option, Some, refl, sym, ap, inl, inr, arith, length, take, drop, get_or}
+use Rattle.std.proofs.Common.{◌≡◌, ◌<◌, ◌≤◌, ◌+◌, ◌-◌, ◌++◌, ◌∷◌, ◌∙◌, ◌==◌, [], ℕ, ℤ, zero, suc, List, Bool, true, false, Option, Some, refl, sym, ap, subst, inl, inr, arith, length, take, drop, get_or}
 use Rattle.std.proofs.lemmas.List.{append-nil, length-take, length-drop}
 use Rattle.std.proofs.lemmas.Bool.{cases_Bool}
 use Rattle.std.proofs.lemmas.Bool.Decides.{nat_tests}
@@ -7,7 +7,7 @@ use Rattle.std.specs.List.{list_all, list_any}
 use Rattle.std.specs.Char.{is_ascii_digit}
 use Rattle.csv.specs.declared.parser.State.TheVariants as st
 use Rattle.columns.specs.Number.{number_of}
-use Rattle.columns.specs.TextRows.{GoesQuoted, GoesTo, IsMarkThere, IsNumberThere, IsSeparator, ends_cell, is_bare_byte}
+use Rattle.columns.specs.TextRows.{GoesQuoted, GoesTo, IsFieldThere, IsMarkThere, IsNumberThere, IsSeparator, ends_cell, is_bare_byte}
 use Rattle.columns.specs.TableForms.{filled}
 use Rattle.columns.proofs.NumberLemmas.{at_byte, filled_number, number_length, part}
 use Rattle.columns.proofs.TextLemmas.{bare_goes, ended, first_of, mark_no_quote, over_in, part_at, quoted_goes, quoted_none}
@@ -87,6 +87,32 @@ quoted_number s b text at end n is_last ys sep in_text quote h within close none
       number = number;
       reads = ended s (34 ∷ drop (at + 1) text) x c ys mark whole;
     })
+
+-- a field without quotes around it, whatever it holds
+bare_field_there : (s : ℕ) (x zs : List ℕ) (is_last : Bool) (ys : List ℕ) → IsSeparator s → list_any (ends_cell s) x ≡ false → (get_or (x ++ zs) 0 0 == 34) ≡ false
+    → IsMarkThere s zs is_last ys → IsFieldThere s (x ++ zs) x is_last ys
+bare_field_there s x zs is_last ys sep plain first (c, at_c, mark, last) =
+    rw (at_c, last) (ended s (x ++ c ∷ ys) x c ys mark (bare_goes s x c ys sep plain (rw at_c at first) mark))
+
+pub bare_field : (s : ℕ) (text : List ℕ) (at end : ℕ) (is_last : Bool) (ys : List ℕ) → IsSeparator s → at ≤ end → list_any (ends_cell s) (take (end - at) (drop at text)) ≡ false
+    → (get_or text at 0 == 34) ≡ false → IsMarkThere s (drop end text) is_last ys → IsFieldThere s (drop at text) (take (end - at) (drop at text)) is_last ys
+bare_field s text at end is_last ys sep h plain first mark =
+    let x = take (end - at) (drop at text) in
+    let split = part text at end h in
+    let start : (get_or (x ++ drop end text) 0 0 == 34) ≡ false = subst (λ t. (get_or t 0 0 == 34) ≡ false) split (rw (sym (first_of text at)) at first) in
+    subst (λ t. IsFieldThere s t x is_last ys) (sym split) (bare_field_there s x (drop end text) is_last ys sep plain start mark)
+
+-- a field whole in quotes
+pub quoted_field : (s : ℕ) (text : List ℕ) (at end : ℕ) (is_last : Bool) (ys : List ℕ) → IsSeparator s → at < length text → get_or text at 0 ≡ 34 → at + 1 ≤ end → end < length text
+    → get_or text end 0 ≡ 34 → ((k : ℕ) → at + 1 ≤ k → k < end → (get_or text k 0 == 34) ≡ false)
+    → IsMarkThere s (drop (end + 1) text) is_last ys → IsFieldThere s (drop at text) (take (end - (at + 1)) (drop (at + 1) text)) is_last ys
+quoted_field s text at end is_last ys sep in_text quote h within close none (c, at_c, mark, last) =
+    let x = take (end - (at + 1)) (drop (at + 1) text) in
+    let over = over_in s text [] (at + 1) (at + 1) end h within none close (quoted_none s (drop (at + 1) text)) in
+    let to_mark : GoesQuoted s st.AfterQuote (drop (at + 1) text) x (c ∷ ys) = rw at_c at over in
+    let goes : GoesTo s (34 ∷ drop (at + 1) text) (x ++ []) (c ∷ ys) = quoted_goes s (drop (at + 1) text) x [] c ys sep to_mark refl (mark_no_quote s c sep mark) mark in
+    let whole : GoesTo s (34 ∷ drop (at + 1) text) x (c ∷ ys) = rw (append-nil x) at goes in
+    rw (at_byte text at 34 in_text quote, last) (ended s (34 ∷ drop (at + 1) text) x c ys mark whole)
 
 bare_at : (x : List ℕ) (i : ℕ) → i < length x → list_all is_bare_byte x ≡ true → is_bare_byte (get_or x i 0) ≡ true
 bare_at [] i h all = absurd (omega (arith, h))

@@ -1,10 +1,9 @@
 -- Rows of which some cells are kept, read where they stand.
-use Rattle.std.proofs.Common.{◌≡◌, ◌<◌, ◌≤◌, ◌+◌, ◌++◌, ◌∷◌, ◌∙◌, ◌||◌, ◌==◌, not, [], ℕ, ℤ, zero, suc, List, Bool, true, false, Option, Some, None, refl, sym, ap, inl, inr, arith, append_assoc, length, map, take, drop, get_or, set}
-use Rattle.std.proofs.lemmas.List.{append-nil, drop_all, drop_more, drop-set-lt, map_push, take_more_set, length-append, length-map, length-set, length-take, map-append, take_all, take_more}
+use Rattle.std.proofs.Common.{◌≡◌, ◌<◌, ◌≤◌, ◌+◌, ◌++◌, ◌∷◌, ◌∙◌, ◌||◌, ◌==◌, [], ℕ, ℤ, zero, suc, List, Bool, true, false, Option, Some, None, refl, sym, ap, inl, inr, arith, append_assoc, length, map, take, drop, get_or, set}
+use Rattle.std.proofs.lemmas.List.{append-nil, drop-map, take-append-drop, take-map, drop_all, drop_more, drop-set-lt, map_push, take_more_set, length-append, length-drop, length-map, length-take, map-append, take_all, take_more}
 use Rattle.std.proofs.lemmas.Bool.{cases_Bool}
 use Rattle.std.proofs.lemmas.Option.{same_Some}
 use Rattle.std.specs.Option.{option_or}
-use Rattle.std.specs.Prelude.{is_some}
 use Rattle.csv.specs.Machine.{next_record}
 use Rattle.csv.specs.Reading.{AreRecords, Reached}
 use Rattle.csv.specs.declared.parser.Config.{Config}
@@ -12,19 +11,18 @@ use Rattle.csv.specs.declared.parser.State.{State}
 use Rattle.csv.specs.declared.parser.State.TheVariants as st
 use Rattle.columns.specs.declared.fault.ColumnFault.{ColumnFault}
 use Rattle.tables.specs.declared.table.Column.{Column}
-use Rattle.columns.specs.Number.{number_of}
 use Rattle.columns.specs.Table.{first_number}
 use Rattle.tables.specs.Table.{NamedColumn}
-use Rattle.columns.specs.TableForms.{config_of, filled, filled_rows, kept, kept_fault, row_fault_in, rows_fault_in}
+use Rattle.columns.specs.TableForms.{config_of, filled, filled_rows, kept, kept_fault, row_fault_in, rows_fault_in, seen}
 use Rattle.columns.specs.TableOfColumns.{with_row, with_rows}
 use Rattle.tables.specs.TableOfColumns.{named}
-use Rattle.columns.specs.TextRows.{AreCellsIn, AreReadIn, AreRowsIn, Ends, HaveRows, IsBetween, IsBegun, IsNumberThere, IsRowIn, IsTextThere, cut_to, marked}
-use Rattle.columns.proofs.KeptLemmas.{kept_fault_more, kept_more, length-kept, marked_more, marked_up, same_length}
-use Rattle.columns.proofs.RowLemmas.{put_more, with_rows-append}
+use Rattle.columns.specs.TextRows.{AreCellsIn, AreReadIn, AreRowsIn, Ends, HaveRows, IsBetween, IsBegun, IsCellThere, IsNumberThere, IsRowIn, IsTextThere, cut_to, look_count}
+use Rattle.columns.proofs.KeptLemmas.{IsCellPut-more, IsCellPut-none, joined_put, kept_fault_more, kept_more, look_count_up, looks_more, same_length}
+use Rattle.columns.proofs.RowLemmas.{with_rows-append}
 
 -- no cells yet
-pub AreCellsIn-none : (s : ℕ) (b : Option ℤ) (marks : List Bool) (xs : List ℕ) (before : List NamedColumn) → AreCellsIn s b marks xs xs 0 before before
-AreCellsIn-none s b marks xs before = record {
+pub AreCellsIn-none : (s : ℕ) (b : Option ℤ) (looks : List (List ℕ)) (xs : List ℕ) (before : List NamedColumn) → AreCellsIn s b looks xs xs 0 before before
+AreCellsIn-none s b looks xs before = record {
   fields = [];
   wide = refl;
   reads = λ rest. refl;
@@ -32,118 +30,84 @@ AreCellsIn-none s b marks xs before = record {
   put = λ more. refl;
 }
 
--- a cell more that is kept
-pub AreCellsIn-number : (s : ℕ) (b : Option ℤ) (marks : List Bool) (xs ys zs : List ℕ) (columns : List Column) (before : List NamedColumn) (count k : ℕ) (c a : Column) (n : ℤ)
-    → count < length marks → get_or marks count false ≡ true → k ≡ marked (take count marks) → k < length columns
-    → AreCellsIn s b marks xs ys count before (map named columns) → IsNumberThere s b ys n false zs → c ≡ get_or columns k c
-    → named a ≡ record { name = c.name.items; cells = c.cells.items ++ n ∷ [] } → AreCellsIn s b marks xs zs (count + 1) before (map named (set columns k a))
-AreCellsIn-number s b marks xs ys zs columns before count k c a n room is which within so_far there here grown =
-    let front = take count marks in
+-- a cell more, put under the columns from k on
+pub AreCellsIn-cell : (s : ℕ) (b : Option ℤ) (looks : List (List ℕ)) (xs ys zs : List ℕ) (now before sub : List NamedColumn) (count k : ℕ) (m : List ℕ)
+    → count < length looks → get_or looks count [] ≡ m → k ≡ look_count (take count looks) → k ≤ length now
+    → AreCellsIn s b looks xs ys count before now → IsCellThere s b m ys false zs (drop k now) sub → AreCellsIn s b looks xs zs (count + 1) before (take k now ++ sub)
+AreCellsIn-cell s b looks xs ys zs now before sub count k m room is which within so_far there =
+    let front = take count looks in
     let fields = so_far.fields in
     let cells = map (filled b) fields in
     let cell = filled b there.cell in
     let all_fields = map_push (filled b) fields there.cell in
-    let wide : length cells ≡ length front = length-map fields (filled b) ∙ omega (arith, so_far.wide, length-take count marks, room) in
-    let marks_up : take (count + 1) marks ≡ front ++ true ∷ [] = take_more marks count false room ∙ ap (λ b. front ++ b ∷ []) is in
-    let count_up : marked (take (count + 1) marks) ≡ k + 1 = omega (arith, marked_up marks count true room is, which) in
-    let some : (not true || is_some (number_of cell)) ≡ true = rw there.number refl in
-    let cells_up : kept (take (count + 1) marks) (cells ++ cell ∷ []) ≡ kept front cells ++ cell ∷ [] = rw marks_up (kept_more front true cells cell wide) in
-    let kept_wide : length (kept front cells) ≡ k = length-kept front cells wide ∙ sym which in
+    let wide : length cells ≡ length front = length-map fields (filled b) ∙ omega (arith, so_far.wide, length-take count looks, room) in
+    let looks_up : take (count + 1) looks ≡ front ++ m ∷ [] = looks_more looks count m room is in
+    let count_up : look_count (take (count + 1) looks) ≡ k + length m = look_count_up looks count m room is ∙ ap (λ n. n + length m) (sym which) in
+    let cells_up : kept (take (count + 1) looks) (cells ++ cell ∷ []) ≡ kept front cells ++ seen m cell = rw looks_up (kept_more front m cells cell wide) in
     let before_put = rw (sym which) at so_far.put in
     record {
       fields = fields ++ there.cell ∷ [];
       wide = omega (arith, so_far.wide, length-append fields (there.cell ∷ []));
       reads = λ rest. so_far.reads rest ∙ there.reads fields rest;
-      good = λ r f. rw (all_fields, marks_up) (kept_fault_more front true r f cells cell wide some (so_far.good r f));
-      put = λ more. rw (all_fields, count_up, cells_up) (put_more columns (kept front cells) cell more k c a n within kept_wide there.number here grown
-          ∙ before_put (cell ∷ more) ∙ ap (with_row before) (sym (append_assoc (kept front cells) (cell ∷ []) more)));
-    }
-
--- a cell more that isn't
-pub AreCellsIn-text : (s : ℕ) (b : Option ℤ) (marks : List Bool) (xs ys zs : List ℕ) (before after : List NamedColumn) (count : ℕ)
-    → count < length marks → get_or marks count false ≡ false
-    → AreCellsIn s b marks xs ys count before after → IsTextThere s ys false zs → AreCellsIn s b marks xs zs (count + 1) before after
-AreCellsIn-text s b marks xs ys zs before after count room is so_far there =
-    let front = take count marks in
-    let fields = so_far.fields in
-    let cells = map (filled b) fields in
-    let cell = filled b there.cell in
-    let all_fields = map_push (filled b) fields there.cell in
-    let wide : length cells ≡ length front = length-map fields (filled b) ∙ omega (arith, so_far.wide, length-take count marks, room) in
-    let marks_up : take (count + 1) marks ≡ front ++ false ∷ [] = take_more marks count false room ∙ ap (λ b. front ++ b ∷ []) is in
-    let count_up : marked (take (count + 1) marks) ≡ marked front = marked_up marks count false room is in
-    let cells_up : kept (take (count + 1) marks) (cells ++ cell ∷ []) ≡ kept front cells = rw marks_up (kept_more front false cells cell wide ∙ append-nil (kept front cells)) in
-    record {
-      fields = fields ++ there.cell ∷ [];
-      wide = omega (arith, so_far.wide, length-append fields (there.cell ∷ []));
-      reads = λ rest. so_far.reads rest ∙ there.reads fields rest;
-      good = λ r f. rw (all_fields, marks_up) (kept_fault_more front false r f cells cell wide refl (so_far.good r f));
-      put = λ more. rw (all_fields, count_up, cells_up) (so_far.put more);
+      good = λ r f. rw (all_fields, looks_up) (kept_fault_more front m r f cells cell wide there.is_put.good (so_far.good r f));
+      put = λ more. rw (all_fields, count_up, cells_up) (joined_put now sub k (length m) more within ∙ ap (λ l. take k now ++ l) (there.is_put.put more)
+          ∙ before_put (seen m cell ++ more) ∙ ap (with_row before) (sym (append_assoc (kept front cells) (seen m cell) more)));
     }
 
 -- all cells of a row
-row_of : (s : ℕ) (b : Option ℤ) (marks : List Bool) (xs ys : List ℕ) (fields : List (List ℕ)) (before after : List NamedColumn) → length fields ≡ length marks → marked marks ≡ length after
+row_of : (s : ℕ) (b : Option ℤ) (looks : List (List ℕ)) (xs ys : List ℕ) (fields : List (List ℕ)) (before after : List NamedColumn) → length fields ≡ length looks → look_count looks ≡ length after
     → ((rest : List ℕ) → Ends (next_record (config_of s) st.StartField [] [] (xs ++ rest)) fields (ys ++ rest))
-    → ((r : ℕ) → kept_fault marks r 1 (map (filled b) fields) ≡ None)
-    → take (marked marks) after ++ with_row (drop (marked marks) after) [] ≡ with_row before (kept marks (map (filled b) fields) ++ []) → IsRowIn s b marks xs ys before after
-row_of s b marks xs ys fields before after wide width ends good put =
-    let all : length after ≤ marked marks = omega (arith, width) in
-    let whole = rw (take_all (marked marks) after all, drop_all (marked marks) after all, append-nil (kept marks (map (filled b) fields))) at put in
+    → ((r : ℕ) → kept_fault looks r 1 (map (filled b) fields) ≡ None)
+    → take (look_count looks) after ++ with_row (drop (look_count looks) after) [] ≡ with_row before (kept looks (map (filled b) fields) ++ []) → IsRowIn s b looks xs ys before after
+row_of s b looks xs ys fields before after wide width ends good put =
+    let all : length after ≤ look_count looks = omega (arith, width) in
+    let whole = rw (take_all (look_count looks) after all, drop_all (look_count looks) after all, append-nil (kept looks (map (filled b) fields))) at put in
     record {
       row = fields;
       ends = ends;
-      good = λ r. rw (same_length (length (map (filled b) fields)) (length marks) (length-map fields (filled b) ∙ wide)) (good r);
+      good = λ r. rw (same_length (length (map (filled b) fields)) (length looks) (length-map fields (filled b) ∙ wide)) (good r);
       put = sym (append-nil after) ∙ whole;
     }
 
 -- the last cell of a row
-pub IsRowIn-number : (s : ℕ) (b : Option ℤ) (marks : List Bool) (xs ys zs : List ℕ) (columns : List Column) (before : List NamedColumn) (count k : ℕ) (c a : Column) (n : ℤ)
-    → length marks ≡ count + 1 → get_or marks count false ≡ true → k ≡ marked (take count marks) → marked marks ≡ length columns
-    → AreCellsIn s b marks xs ys count before (map named columns) → IsNumberThere s b ys n true zs → c ≡ get_or columns k c
-    → named a ≡ record { name = c.name.items; cells = c.cells.items ++ n ∷ [] } → IsRowIn s b marks xs zs before (map named (set columns k a))
-IsRowIn-number s b marks xs ys zs columns before count k c a n long is which width so_far there here grown =
-    let front = take count marks in
+pub IsRowIn-cell : (s : ℕ) (b : Option ℤ) (looks : List (List ℕ)) (xs ys zs : List ℕ) (now before sub : List NamedColumn) (count k : ℕ) (m : List ℕ)
+    → length looks ≡ count + 1 → get_or looks count [] ≡ m → k ≡ look_count (take count looks) → look_count looks ≡ length now → length sub ≡ length (drop k now)
+    → AreCellsIn s b looks xs ys count before now → IsCellThere s b m ys true zs (drop k now) sub → IsRowIn s b looks xs zs before (take k now ++ sub)
+IsRowIn-cell s b looks xs ys zs now before sub count k m long is which width same so_far there =
+    let front = take count looks in
     let fields = so_far.fields in
     let cells = map (filled b) fields in
     let cell = filled b there.cell in
     let all_fields = map_push (filled b) fields there.cell in
-    let room : count < length marks = omega (arith, long) in
-    let wide : length cells ≡ length front = length-map fields (filled b) ∙ omega (arith, so_far.wide, length-take count marks, room) in
-    let marks_up : marks ≡ front ++ true ∷ [] = sym (take_all (count + 1) marks (omega (arith, long))) ∙ take_more marks count false room ∙ ap (λ b. front ++ b ∷ []) is in
-    let count_up : marked marks ≡ k + 1 = ap marked marks_up ∙ marked_more front true ∙ omega (arith, which) in
-    let within : k < length columns = omega (arith, width, count_up) in
-    let some : (not true || is_some (number_of cell)) ≡ true = rw there.number refl in
+    let room : count < length looks = omega (arith, long) in
+    let wide : length cells ≡ length front = length-map fields (filled b) ∙ omega (arith, so_far.wide, length-take count looks, room) in
+    let looks_up : looks ≡ front ++ m ∷ [] = sym (take_all (count + 1) looks (omega (arith, long))) ∙ looks_more looks count m room is in
+    let count_up : look_count looks ≡ k + length m =
+    ap look_count (sym (take_all (count + 1) looks (omega (arith, long)))) ∙ look_count_up looks count m room is ∙ ap (λ n. n + length m) (sym which) in
+    let within : k ≤ length now = omega (arith, width, count_up) in
     let all = cells ++ cell ∷ [] in
-    let cells_up : kept marks all ≡ kept front cells ++ cell ∷ [] = ap (λ m. kept m all) marks_up ∙ kept_more front true cells cell wide in
-    let kept_wide : length (kept front cells) ≡ k = length-kept front cells wide ∙ sym which in
+    let cells_up : kept looks all ≡ kept front cells ++ seen m cell = ap (λ l. kept l all) looks_up ∙ kept_more front m cells cell wide in
     let before_put = rw (sym which) at so_far.put in
-    let after = map named (set columns k a) in
-    let good : (r : ℕ) → kept_fault marks r 1 all ≡ None = λ r. ap (λ m. kept_fault m r 1 all) marks_up ∙ kept_fault_more front true r 1 cells cell wide some (so_far.good r 1) in
-    row_of s b marks xs zs (fields ++ there.cell ∷ []) before after (omega (arith, so_far.wide, length-append fields (there.cell ∷ []), long))
-    (width ∙ sym (length-map (set columns k a) named ∙ length-set columns k a))
+    let after = take k now ++ sub in
+    let after_wide : look_count looks ≡ length after = omega (arith, width, length-append (take k now) sub, length-take k now, length-drop k now, same, within) in
+    let good : (r : ℕ) → kept_fault looks r 1 all ≡ None = λ r. ap (λ l. kept_fault l r 1 all) looks_up ∙ kept_fault_more front m r 1 cells cell wide there.is_put.good (so_far.good r 1) in
+    row_of s b looks xs zs (fields ++ there.cell ∷ []) before after (omega (arith, so_far.wide, length-append fields (there.cell ∷ []), long)) after_wide
     (λ rest. let (t, is_end, e) = there.reads fields rest in (t, is_end, so_far.reads rest ∙ e)) (λ r. rw all_fields (good r))
-    (rw (all_fields, count_up, cells_up) (put_more columns (kept front cells) cell [] k c a n within kept_wide there.number here grown
-    ∙ before_put (cell ∷ []) ∙ ap (with_row before) (sym (append-nil (kept front cells ++ cell ∷ [])))))
+    (rw (all_fields, count_up, cells_up) (joined_put now sub k (length m) [] within ∙ ap (λ l. take k now ++ l) (there.is_put.put [])
+    ∙ before_put (seen m cell ++ []) ∙ ap (with_row before) (sym (append_assoc (kept front cells) (seen m cell) []))))
 
-pub IsRowIn-text : (s : ℕ) (b : Option ℤ) (marks : List Bool) (xs ys zs : List ℕ) (before after : List NamedColumn) (count : ℕ)
-    → length marks ≡ count + 1 → get_or marks count false ≡ false → marked marks ≡ length after
-    → AreCellsIn s b marks xs ys count before after → IsTextThere s ys true zs → IsRowIn s b marks xs zs before after
-IsRowIn-text s b marks xs ys zs before after count long is width so_far there =
-    let front = take count marks in
-    let fields = so_far.fields in
-    let cells = map (filled b) fields in
-    let cell = filled b there.cell in
-    let all_fields = map_push (filled b) fields there.cell in
-    let room : count < length marks = omega (arith, long) in
-    let wide : length cells ≡ length front = length-map fields (filled b) ∙ omega (arith, so_far.wide, length-take count marks, room) in
-    let marks_up : marks ≡ front ++ false ∷ [] = sym (take_all (count + 1) marks (omega (arith, long))) ∙ take_more marks count false room ∙ ap (λ b. front ++ b ∷ []) is in
-    let count_up : marked marks ≡ marked front = ap marked marks_up ∙ marked_more front false in
-    let all = cells ++ cell ∷ [] in
-    let cells_up : kept marks all ≡ kept front cells = ap (λ m. kept m all) marks_up ∙ kept_more front false cells cell wide ∙ append-nil (kept front cells) in
-    let good : (r : ℕ) → kept_fault marks r 1 all ≡ None = λ r. ap (λ m. kept_fault m r 1 all) marks_up ∙ kept_fault_more front false r 1 cells cell wide refl (so_far.good r 1) in
-    row_of s b marks xs zs (fields ++ there.cell ∷ []) before after (omega (arith, so_far.wide, length-append fields (there.cell ∷ []), long)) width
-    (λ rest. let (t, is_end, e) = there.reads fields rest in (t, is_end, so_far.reads rest ∙ e)) (λ r. rw all_fields (good r))
-    (rw (all_fields, count_up, cells_up) (so_far.put []))
+-- a cell that isn't looked at, and one of an integer
+pub IsCellThere-other : (s : ℕ) (b : Option ℤ) (xs : List ℕ) (is_last : Bool) (ys : List ℕ) (before : List NamedColumn) → IsTextThere s xs is_last ys → IsCellThere s b [] xs is_last ys before before
+IsCellThere-other s b xs is_last ys before there = record { cell = there.cell; reads = there.reads; is_put = IsCellPut-none (filled b there.cell) before }
+
+pub IsCellThere-integer : (s : ℕ) (b : Option ℤ) (xs : List ℕ) (is_last : Bool) (ys : List ℕ) (columns : List Column) (c a : Column) (n : ℤ) → 0 < length columns
+    → IsNumberThere s b xs n is_last ys → c ≡ get_or columns 0 c → named a ≡ record { name = c.name.items; cells = c.cells.items ++ n ∷ [] }
+    → IsCellThere s b (0 ∷ []) xs is_last ys (map named columns) (map named (set columns 0 a))
+IsCellThere-integer s b xs is_last ys columns c a n within there here grown = record {
+  cell = there.cell;
+  reads = there.reads;
+  is_put = IsCellPut-more [] 0 (filled b there.cell) (map named columns) columns 0 c a n (IsCellPut-none (filled b there.cell) (map named columns)) refl within there.number here grown;
+}
 
 -- ---- records, for any separator
 
@@ -211,16 +175,16 @@ or_assoc : (a b c : Option ColumnFault) → option_or (option_or a b) c ≡ opti
 or_assoc None b c = refl
 or_assoc (Some f) b c = refl
 
-rows_fault_in-append : (marks : List Bool) (r : ℕ) (a b : List (List (List ℕ))) → rows_fault_in marks r (a ++ b) ≡ option_or (rows_fault_in marks r a) (rows_fault_in marks (r + length a) b)
-rows_fault_in-append marks r [] b =
+rows_fault_in-append : (looks : List (List ℕ)) (r : ℕ) (a b : List (List (List ℕ))) → rows_fault_in looks r (a ++ b) ≡ option_or (rows_fault_in looks r a) (rows_fault_in looks (r + length a) b)
+rows_fault_in-append looks r [] b =
     let same : r + 0 ≡ r = omega arith in
     rw same refl
-rows_fault_in-append marks r (row ∷ a) b =
+rows_fault_in-append looks r (row ∷ a) b =
     let on : r + 1 + length a ≡ r + length (row ∷ a) = omega arith in
-    rw (rows_fault_in-append marks (r + 1) a b, on) (sym (or_assoc (row_fault_in marks r row) (rows_fault_in marks (r + 1) a) (rows_fault_in marks (r + length (row ∷ a)) b)))
+    rw (rows_fault_in-append looks (r + 1) a b, on) (sym (or_assoc (row_fault_in looks r row) (rows_fault_in looks (r + 1) a) (rows_fault_in looks (r + length (row ∷ a)) b)))
 
-pub AreReadIn-none : (s : ℕ) (b : Option ℤ) (marks : List Bool) (xs : List ℕ) (columns : List NamedColumn) → AreReadIn s b marks xs xs columns columns
-AreReadIn-none s b marks xs columns = record {
+pub AreReadIn-none : (s : ℕ) (b : Option ℤ) (looks : List (List ℕ)) (xs : List ℕ) (columns : List NamedColumn) → AreReadIn s b looks xs xs columns columns
+AreReadIn-none s b looks xs columns = record {
   rows = [];
   reads = λ rest more r. r;
   good = λ r. refl;
@@ -228,29 +192,29 @@ AreReadIn-none s b marks xs columns = record {
 }
 
 -- rows written out, and rows after them
-pub fault_more : (marks : List Bool) (b : Option ℤ) (r : ℕ) (one two : List (List (List ℕ))) → rows_fault_in marks r (filled_rows b one) ≡ None
-    → rows_fault_in marks r (filled_rows b (one ++ two)) ≡ rows_fault_in marks (r + length (filled_rows b one)) (filled_rows b two)
-fault_more marks b r one two good =
-    rw (map-append (map (filled b)) one two, rows_fault_in-append marks r (filled_rows b one) (filled_rows b two), good) refl
+pub fault_more : (looks : List (List ℕ)) (b : Option ℤ) (r : ℕ) (one two : List (List (List ℕ))) → rows_fault_in looks r (filled_rows b one) ≡ None
+    → rows_fault_in looks r (filled_rows b (one ++ two)) ≡ rows_fault_in looks (r + length (filled_rows b one)) (filled_rows b two)
+fault_more looks b r one two good =
+    rw (map-append (map (filled b)) one two, rows_fault_in-append looks r (filled_rows b one) (filled_rows b two), good) refl
 
-pub rows_more : (marks : List Bool) (b : Option ℤ) (a d c : List NamedColumn) (one two : List (List (List ℕ))) → d ≡ with_rows a (map (kept marks) (filled_rows b one))
-    → c ≡ with_rows d (map (kept marks) (filled_rows b two)) → c ≡ with_rows a (map (kept marks) (filled_rows b (one ++ two)))
-rows_more marks b a d c one two first second =
-    second ∙ ap (λ k. with_rows k (map (kept marks) (filled_rows b two))) first
-    ∙ sym (with_rows-append a (map (kept marks) (filled_rows b one)) (map (kept marks) (filled_rows b two)))
-    ∙ ap (with_rows a) (sym (ap (map (kept marks)) (map-append (map (filled b)) one two) ∙ map-append (kept marks) (filled_rows b one) (filled_rows b two)))
+pub rows_more : (looks : List (List ℕ)) (b : Option ℤ) (a d c : List NamedColumn) (one two : List (List (List ℕ))) → d ≡ with_rows a (map (kept looks) (filled_rows b one))
+    → c ≡ with_rows d (map (kept looks) (filled_rows b two)) → c ≡ with_rows a (map (kept looks) (filled_rows b (one ++ two)))
+rows_more looks b a d c one two first second =
+    second ∙ ap (λ k. with_rows k (map (kept looks) (filled_rows b two))) first
+    ∙ sym (with_rows-append a (map (kept looks) (filled_rows b one)) (map (kept looks) (filled_rows b two)))
+    ∙ ap (with_rows a) (sym (ap (map (kept looks)) (map-append (map (filled b)) one two) ∙ map-append (kept looks) (filled_rows b one) (filled_rows b two)))
 
 -- rows, and then the rows after them
-pub AreReadIn-join : (s : ℕ) (b : Option ℤ) (marks : List Bool) (xs ys zs : List ℕ) (a d c : List NamedColumn) → AreReadIn s b marks xs ys a d → AreReadIn s b marks ys zs d c → AreReadIn s b marks xs zs a c
-AreReadIn-join s b marks xs ys zs a d c first second = record {
+pub AreReadIn-join : (s : ℕ) (b : Option ℤ) (looks : List (List ℕ)) (xs ys zs : List ℕ) (a d c : List NamedColumn) → AreReadIn s b looks xs ys a d → AreReadIn s b looks ys zs d c → AreReadIn s b looks xs zs a c
+AreReadIn-join s b looks xs ys zs a d c first second = record {
   rows = first.rows ++ second.rows;
   reads = λ rest more r. rw (append_assoc first.rows second.rows more) (first.reads rest (second.rows ++ more) (second.reads rest more r));
-  good = λ r. fault_more marks b r first.rows second.rows (first.good r) ∙ second.good (r + length (filled_rows b first.rows));
-  put = rows_more marks b a d c first.rows second.rows first.put second.put;
+  good = λ r. fault_more looks b r first.rows second.rows (first.good r) ∙ second.good (r + length (filled_rows b first.rows));
+  put = rows_more looks b a d c first.rows second.rows first.put second.put;
 }
 
-pub AreReadIn-skip : (s : ℕ) (b : Option ℤ) (marks : List Bool) (xs ys : List ℕ) (c : ℕ) (a d : List NamedColumn) → ((c == 13) || (c == 10)) ≡ true → AreReadIn s b marks xs (c ∷ ys) a d → AreReadIn s b marks xs ys a d
-AreReadIn-skip s b marks xs ys c a d h so_far = record {
+pub AreReadIn-skip : (s : ℕ) (b : Option ℤ) (looks : List (List ℕ)) (xs ys : List ℕ) (c : ℕ) (a d : List NamedColumn) → ((c == 13) || (c == 10)) ≡ true → AreReadIn s b looks xs (c ∷ ys) a d → AreReadIn s b looks xs ys a d
+AreReadIn-skip s b looks xs ys c a d h so_far = record {
   rows = so_far.rows;
   reads = λ rest more r. so_far.reads rest more (AreRowsIn-skip s c (ys ++ rest) more h r);
   good = so_far.good;
@@ -258,8 +222,8 @@ AreReadIn-skip s b marks xs ys c a d h so_far = record {
 }
 
 -- one row
-pub AreReadIn-row : (s : ℕ) (b : Option ℤ) (marks : List Bool) (ys zs : List ℕ) (c : ℕ) (a d : List NamedColumn) → ((c == 13) || (c == 10)) ≡ false → IsRowIn s b marks (c ∷ ys) zs a d → AreReadIn s b marks (c ∷ ys) zs a d
-AreReadIn-row s b marks ys zs c a d h there = record {
+pub AreReadIn-row : (s : ℕ) (b : Option ℤ) (looks : List (List ℕ)) (ys zs : List ℕ) (c : ℕ) (a d : List NamedColumn) → ((c == 13) || (c == 10)) ≡ false → IsRowIn s b looks (c ∷ ys) zs a d → AreReadIn s b looks (c ∷ ys) zs a d
+AreReadIn-row s b looks ys zs c a d h there = record {
   rows = there.row ∷ [];
   reads = λ rest more r. AreRowsIn-row s (c ∷ (ys ++ rest)) (zs ++ rest) there.row more
       (let (t, is, e) = there.ends rest in (t, is, record_same s [] [] c (ys ++ rest) h ∙ e)) r;
@@ -304,6 +268,20 @@ pub IsBegun-more : (n : ℕ) (before : List NamedColumn) (columns : List Column)
     → c ≡ get_or columns k c → named a ≡ record { name = c.name.items; cells = c.cells.items ++ x ∷ [] } → IsBegun n before (map named (set columns k a))
 IsBegun-more n before columns k c a x h begun within here grown =
     begun_set n columns k c a x (lengths n before (map named columns) h begun) within here grown ∙ begun
+
+-- columns of which those from k on were begun
+HaveRows-drop : (n k : ℕ) (columns : List NamedColumn) → HaveRows n columns → HaveRows n (drop k columns)
+HaveRows-drop n zero columns h = h
+HaveRows-drop n (suc k) [] h = tt
+HaveRows-drop n (suc k) (c ∷ columns) (here, more) = HaveRows-drop n k columns more
+
+pub IsBegun-join : (n k : ℕ) (first now sub : List NamedColumn) → HaveRows n first → IsBegun n first now
+    → ((n : ℕ) (first : List NamedColumn) → HaveRows n first → IsBegun n first (drop k now) → IsBegun n first sub) → IsBegun n first (take k now ++ sub)
+IsBegun-join n k first now sub h begun go =
+    let later : map (cut_to n) (drop k now) ≡ drop k first = sym (drop-map (cut_to n) k now) ∙ ap (drop k) begun in
+    let front : map (cut_to n) (take k now) ≡ take k first = sym (take-map (cut_to n) k now) ∙ ap (take k) begun in
+    map-append (cut_to n) (take k now) sub ∙ ap (λ l. l ++ map (cut_to n) sub) front ∙ ap (λ l. take k first ++ l) (go n (drop k first) (HaveRows-drop n k first h) later)
+    ∙ take-append-drop k first
 
 -- a column that is as it was
 pub set_same : (columns : List Column) (k : ℕ) (c a : Column) → k < length columns → c ≡ get_or columns k c → named a ≡ named c → map named (set columns k a) ≡ map named columns

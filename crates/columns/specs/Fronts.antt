@@ -4,22 +4,22 @@ use Rattle.std.specs.Io.KnownBytes.{Consumes, IsAtEnd}
 use Rattle.columns.specs.declared.fault.ColumnFault.{ColumnFault}
 use Rattle.columns.specs.declared.fault.ColumnFault.TheVariants.{Read, NoMemory}
 use Rattle.columns.specs.declared.layout.Layout.{Layout}
-use Rattle.columns.specs.Layouts.{IsLayout}
+use Rattle.columns.specs.Layouts.{IsLayout, looks_in}
 use Rattle.columns.specs.Pieces.{cells_at}
 use Rattle.columns.specs.Refusals.{header_fault}
 use Rattle.columns.specs.Table.{columns_under}
 use Rattle.tables.specs.Table.{NamedColumn}
-use Rattle.columns.specs.TableForms.{AbstractForm, filled_rows, kept, rows_fault_in, table_by}
+use Rattle.columns.specs.TableForms.{AbstractForm, filled_rows, kept, kept_names, rows_fault_in, table_by}
 use Rattle.columns.specs.TableOfColumns.{with_rows}
 use Rattle.columns.specs.TextRows.{AreRowsIn}
 
 -- the numbers of rows as a layout keeps them, written out
 abbrev pub kept_rows : Layout → List (List (List ℕ)) → List (List (List ℕ))
-kept_rows l rows = map (kept l.marks.items) (filled_rows l.blank rows)
+kept_rows l rows = map (kept (looks_in l)) (filled_rows l.blank rows)
 
 -- the first fault of rows from row r on
 abbrev pub fault_by : Layout → ℕ → List (List (List ℕ)) → Option ColumnFault
-fault_by l r rows = rows_fault_in l.marks.items r (filled_rows l.blank rows)
+fault_by l r rows = rows_fault_in (looks_in l) r (filled_rows l.blank rows)
 
 -- a text has a header and rows without a fault, which stand in the columns; the records after them are read from `left`
 -- on, whatever comes after the text
@@ -28,9 +28,9 @@ pub record IsFront (form : AbstractForm) (l : Layout) (text left : List ℕ) (co
   pub rows : List (List (List ℕ))
   pub layout : IsLayout form l header
   pub reads : (rest : List ℕ) (more : List (List (List ℕ))) → AreRowsIn l.separator (left ++ rest) more → AreRowsIn l.separator (text ++ rest) (header ∷ (rows ++ more))
-  pub fits : header_fault (kept l.marks.items header) ≡ None
+  pub fits : header_fault (kept_names (looks_in l) header) ≡ None
   pub good : fault_by l 1 rows ≡ None
-  pub put : columns ≡ with_rows (columns_under (kept l.marks.items header) []) (kept_rows l rows)
+  pub put : columns ≡ with_rows (columns_under (kept_names (looks_in l) header) []) (kept_rows l rows)
 
 -- all rows of a text, a mark at its start apart, stand in the columns, or this is their first fault, or a read or
 -- memory failed

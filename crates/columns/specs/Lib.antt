@@ -1,6 +1,7 @@
 -- Condition: the files of this crate's definitions; of each the first line says what it is.
 pub mod Cell
 pub mod Cells
+pub mod Decimals
 pub mod FaultTexts
 pub mod Fronts
 pub mod Layouts

@@ -5,12 +5,13 @@ use Rattle.columns.specs.declared.fault.ColumnFault.TheVariants.{NoHeader, SameN
 use Rattle.columns.specs.Cells.{cells_of}
 use Rattle.columns.specs.Table.{table_of}
 use Rattle.tables.specs.Table.{NamedColumn}
-use Rattle.columns.specs.TableForms.{AbstractForm, cells_by, default_form, filled_rows, is_wanted, kept, table_by}
+use Rattle.columns.specs.TableForms.{AbstractForm, cells_by, default_form, filled_rows, kept, kept_names, looks_of, table_by}
 
--- a header and rows with the cells of the named columns alone, blank ones written out
+-- a header and rows with the cells of the columns that are looked at alone, under their keys, blank ones written out and
+-- decimals read as integers
 abbrev pub cut_table : AbstractForm → List (List ℕ) → List (List (List ℕ)) → List (List (List ℕ))
 cut_table form header rows =
-    kept (map (is_wanted form.names) header) header ∷ map (kept (map (is_wanted form.names) header)) (filled_rows form.blank rows)
+    kept_names (map (looks_of form) header) header ∷ map (kept (map (looks_of form) header)) (filled_rows form.blank rows)
 
 -- a fault without the number of its column
 abbrev pub without_column : ColumnFault → ColumnFault

@@ -1,5 +1,5 @@
 -- Condition: cells and rows of a text that are read where they stand, some of them skipped.
-use Rattle.std.specs.Prelude.{◌≡◌, ◌⊎◌, ◌++◌, ◌∷◌, [], ℕ, ℤ, suc, List, Bool, Option, Some, None, length, map, take, drop, not, true, false, ◌==◌, ◌||◌, if◌then◌else◌}
+use Rattle.std.specs.Prelude.{◌≡◌, ◌⊎◌, ◌++◌, ◌∷◌, [], ℕ, ℤ, ◌+◌, List, Bool, Option, Some, None, length, map, take, drop, not, true, false, ◌==◌, ◌||◌}
 use Rattle.std.specs.Bool.{MatchBool}
 use Rattle.std.specs.Char.{is_ascii_digit}
 use Rattle.csv.specs.Machine.{Read, next_record}
@@ -8,7 +8,7 @@ use Rattle.csv.specs.declared.parser.State.{State}
 use Rattle.csv.specs.declared.parser.State.TheVariants as st
 use Rattle.columns.specs.Number.{number_of}
 use Rattle.tables.specs.Table.{NamedColumn}
-use Rattle.columns.specs.TableForms.{config_of, filled, filled_rows, kept, kept_fault, row_fault_in, rows_fault_in}
+use Rattle.columns.specs.TableForms.{config_of, filled, filled_rows, is_good, kept, kept_fault, row_fault_in, rows_fault_in, seen}
 use Rattle.columns.specs.TableOfColumns.{with_row, with_rows}
 
 -- the states at the start of a record
@@ -71,37 +71,48 @@ abbrev pub GoesQuoted : ℕ → State → List ℕ → List ℕ → List ℕ →
 GoesQuoted s t xs inside ys = (fields : List (List ℕ)) (field rest : List ℕ)
     → next_record (config_of s) st.InQuoted fields field (xs ++ rest) ≡ next_record (config_of s) t fields (field ++ inside) (ys ++ rest)
 
--- how many marks there are
-abbrev pub marked : List Bool → ℕ
-marked [] = 0
-marked (m ∷ marks) = if m then suc (marked marks) else marked marks
+-- how many looks there are at the columns of a header
+abbrev pub look_count : List (List ℕ) → ℕ
+look_count [] = 0
+look_count (m ∷ looks) = length m + look_count looks
+
+-- a cell spells a number in each of these looks, and the numbers put the first columns from `before` to `after`
+pub record IsCellPut (m : List ℕ) (cell : List ℕ) (before after : List NamedColumn) : Type 0 where
+  pub good : is_good m cell ≡ true
+  pub put : (more : List (List ℕ)) → take (length m) after ++ with_row (drop (length m) after) more ≡ with_row before (seen m cell ++ more)
+
+-- a field starts at xs whose cell, if need be with its blanks written out, is put under the columns
+pub record IsCellThere (s : ℕ) (b : Option ℤ) (m : List ℕ) (xs : List ℕ) (is_last : Bool) (ys : List ℕ) (before after : List NamedColumn) : Type 0 where
+  pub cell : List ℕ
+  pub reads : IsFieldThere s xs cell is_last ys
+  pub is_put : IsCellPut m (filled b cell) before after
 
 -- a row's first field starts at xs; the row has no fault, the next record starts at ys, and its numbers put the columns
 -- from `before` to `after`
-pub record IsRowIn (s : ℕ) (b : Option ℤ) (marks : List Bool) (xs ys : List ℕ) (before after : List NamedColumn) : Type 0 where
+pub record IsRowIn (s : ℕ) (b : Option ℤ) (looks : List (List ℕ)) (xs ys : List ℕ) (before after : List NamedColumn) : Type 0 where
   pub row : List (List ℕ)
   pub ends : (rest : List ℕ) → Ends (next_record (config_of s) st.StartField [] [] (xs ++ rest)) row (ys ++ rest)
-  pub good : (r : ℕ) → row_fault_in marks r (map (filled b) row) ≡ None
-  pub put : after ≡ with_row before (kept marks (map (filled b) row))
+  pub good : (r : ℕ) → row_fault_in looks r (map (filled b) row) ≡ None
+  pub put : after ≡ with_row before (kept looks (map (filled b) row))
 
--- the first fields of a row stand from xs on, before ys; those in marked places are numbers and are put under the first
+-- the first fields of a row stand from xs on, before ys; those that are looked at are numbers and are put under the first
 -- columns
-pub record AreCellsIn (s : ℕ) (b : Option ℤ) (marks : List Bool) (xs ys : List ℕ) (count : ℕ) (before after : List NamedColumn) : Type 0 where
+pub record AreCellsIn (s : ℕ) (b : Option ℤ) (looks : List (List ℕ)) (xs ys : List ℕ) (count : ℕ) (before after : List NamedColumn) : Type 0 where
   pub fields : List (List ℕ)
   pub wide : length fields ≡ count
   pub reads : (rest : List ℕ) → next_record (config_of s) st.StartField [] [] (xs ++ rest) ≡ next_record (config_of s) st.StartField fields [] (ys ++ rest)
-  pub good : (r c : ℕ) → kept_fault (take count marks) r c (map (filled b) fields) ≡ None
+  pub good : (r c : ℕ) → kept_fault (take count looks) r c (map (filled b) fields) ≡ None
   pub put : (more : List (List ℕ))
-      → take (marked (take count marks)) after ++ with_row (drop (marked (take count marks)) after) more
-      ≡ with_row before (kept (take count marks) (map (filled b) fields) ++ more)
+      → take (look_count (take count looks)) after ++ with_row (drop (look_count (take count looks)) after) more
+      ≡ with_row before (kept (take count looks) (map (filled b) fields) ++ more)
 
 -- from a record's start at xs to one at ys there are rows without a fault, whatever comes after, which put the columns
 -- from `before` to `after`
-pub record AreReadIn (s : ℕ) (b : Option ℤ) (marks : List Bool) (xs ys : List ℕ) (before after : List NamedColumn) : Type 0 where
+pub record AreReadIn (s : ℕ) (b : Option ℤ) (looks : List (List ℕ)) (xs ys : List ℕ) (before after : List NamedColumn) : Type 0 where
   pub rows : List (List (List ℕ))
   pub reads : (rest : List ℕ) (more : List (List (List ℕ))) → AreRowsIn s (ys ++ rest) more → AreRowsIn s (xs ++ rest) (rows ++ more)
-  pub good : (r : ℕ) → rows_fault_in marks r (filled_rows b rows) ≡ None
-  pub put : after ≡ with_rows before (map (kept marks) (filled_rows b rows))
+  pub good : (r : ℕ) → rows_fault_in looks r (filled_rows b rows) ≡ None
+  pub put : after ≡ with_rows before (map (kept looks) (filled_rows b rows))
 
 -- a column with its first n cells
 abbrev pub cut_to : ℕ → NamedColumn → NamedColumn

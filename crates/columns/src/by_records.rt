@@ -12,7 +12,7 @@ ghost use Rattle.tables.specs.TableOfColumns.{named};
 
 use crate::fault::ColumnFault;
 use crate::header::{has_mark, rows_to_expect};
-use crate::layout::{Layout, TableForm, kept_count, layout_of};
+use crate::layout::{Layout, TableForm, layout_of, look_count};
 use crate::records::{next_record, reader_of};
 use crate::round_bytes::read_on;
 use crate::rounds::MARK;
@@ -144,8 +144,8 @@ fn columns_from(
         return Err(ColumnFault::NoHeader);
     }
     let layout = layout_of(alloc, row, form)?;
-    let rows = rows_to_expect(bytes, bytes.len(), kept_count(&layout.marks));
-    let mut columns = columns_of_header(alloc, row, &layout.marks, rows)?;
+    let rows = rows_to_expect(bytes, bytes.len(), look_count(&layout.looks));
+    let mut columns = columns_of_header(alloc, row, &layout.looks, rows)?;
     read_rows(reader, row, columns.as_mut_slice(), &layout, 1)?;
     Ok(Columns::of(columns))
 }

@@ -30,7 +30,7 @@ pub(crate) fn read_filled(blank: Option<i64>, cell: &[u8]) -> Option<i64>
     }
 }
 
-fn are_blanks(text: &[u8]) -> bool
+pub(crate) fn are_blanks(text: &[u8]) -> bool
     ensures { result ≡ list_all is_blank text.now }
 {
     text.iter().all(|byte| is_blank(*byte))
@@ -52,7 +52,7 @@ fn is_blank(byte: u8) -> bool
     byte == b' ' || byte == b'\t'
 }
 
-fn without_first_blanks(cell: &[u8]) -> &[u8]
+pub(crate) fn without_first_blanks(cell: &[u8]) -> &[u8]
     ensures { result.now ≡ drop_blanks cell.now }
 {
     let mut rest = cell;
@@ -65,7 +65,7 @@ fn without_first_blanks(cell: &[u8]) -> &[u8]
     rest
 }
 
-fn without_last_blanks(cell: &[u8]) -> &[u8]
+pub(crate) fn without_last_blanks(cell: &[u8]) -> &[u8]
     ensures { result.now ≡ reverse (drop_blanks (reverse cell.now)) }
 {
     let mut rest = cell;

@@ -5,16 +5,16 @@ ghost use Rattle.csv.specs.Machine.{is_end, step};
 ghost use Rattle.csv.specs.Reading.{is_bom, strip_bom};
 ghost use Rattle.csv.specs.Records.{fields_of};
 ghost use Rattle.columns.specs.Fronts.{IsFront};
-ghost use Rattle.columns.specs.Layouts.{Fits, IsLayout, form_of, records_in};
+ghost use Rattle.columns.specs.Layouts.{Fits, IsLayout, form_of, looks_in, records_in};
 ghost use Rattle.columns.specs.Places.{state_of};
 ghost use Rattle.columns.specs.Records.{IsReading};
 ghost use Rattle.columns.specs.Refusals.{header_fault};
 ghost use Rattle.columns.specs.Table.{columns_under};
-ghost use Rattle.columns.specs.TableForms.{config_of, kept};
+ghost use Rattle.columns.specs.TableForms.{config_of, kept_names};
 ghost use Rattle.tables.specs.TableOfColumns.{named};
 ghost use Rattle.columns.specs.TextRows.{EndsFirst, HaveRows, IsBetween, IsSeparator};
 
-use crate::layout::{Layout, TableForm, kept_count, layout_of};
+use crate::layout::{Layout, TableForm, layout_of, look_count};
 use crate::records::{next_record, reader_of};
 use crate::rows::columns_of_header;
 use csv::{ByteRecord, Reader};
@@ -145,15 +145,15 @@ fn columns_and_layout(
     form: &TableForm,
 ) -> Option<(Vec<Column>, Layout)>
     ensures layout { IfSome result (λ both. IsLayout (form_of form.now) both.1 (fields_of header.now)) }
-    ensures fits { IfSome result (λ both. header_fault (kept both.1.marks.items (fields_of header.now)) ≡ None) }
+    ensures fits { IfSome result (λ both. header_fault (kept_names (looks_in both.1) (fields_of header.now)) ≡ None) }
     ensures under { IfSome result (λ both.
-        map named both.0.items ≡ columns_under (kept both.1.marks.items (fields_of header.now)) []) }
+        map named both.0.items ≡ columns_under (kept_names (looks_in both.1) (fields_of header.now)) []) }
 {
     let Ok(layout) = layout_of(alloc, header, form) else {
         return None;
     };
-    let rows = rows_to_expect(bytes, total, kept_count(&layout.marks));
-    match columns_of_header(alloc, header, &layout.marks, rows) {
+    let rows = rows_to_expect(bytes, total, look_count(&layout.looks));
+    match columns_of_header(alloc, header, &layout.looks, rows) {
         Ok(columns) => Some((columns, layout)),
         Err(_) => None,
     }

@@ -6,8 +6,9 @@ pub fn by_default_tables_are_as_before()
     ensures { AreAsBefore }
 {}
 
-/// The columns that are named are the columns of the table that a cut to them leaves, if each row is as long as the
-/// header; then a fault is the cut table's, but for the number of the column in which a bad number is.
+/// The columns that are looked at are those of the table that a cut to them leaves, its decimals read as integers, if
+/// each row is as long as the header; then a fault is the cut table's, but for the number of the column in which a bad
+/// number is.
 pub fn named_columns_are_what_a_cut_leaves()
     ensures { AreWhatACutLeaves }
 {}

@@ -47,7 +47,7 @@ pub fn read_columns<R: CountedRead>(alloc: Global, reader: &mut R) -> Result<Col
     ensures counts { R.failures reader.old ≤ R.failures reader.new }
 {
     let bytes = bytes_of(alloc, reader)?;
-    let form = TableForm::of_integers();
+    let form = TableForm::of_integers(alloc);
     columns_alone(alloc, &bytes, &form)
 }
 
@@ -80,15 +80,16 @@ pub fn read_columns_by<H: Threads + Sync, R: CountedRead>(
         → HasRisen (R.failures reader.old) (R.failures reader.new)) }
     ensures counts { R.failures reader.old ≤ R.failures reader.new }
 {
-    let form = TableForm::of_integers();
+    let form = TableForm::of_integers(alloc);
     read_columns_as(rt, alloc, reader, workers, piece, &form)
 }
 
 /// The columns, or the fault, of a file that is read in this form, on threads as by `read_columns_by`.
 ///
-/// Only the columns with the wanted names are looked at, in the order of the file: 256 at most, none of them twice. The
-/// cells of other columns may hold anything, and are skipped where they stand; a fault says in which column of the file
-/// it is. Each row has as many cells as the header.
+/// All columns are looked at, or those alone that keys of the form name, in the order of the file: 256 at most, none of
+/// them twice. A column is there under each key that names it, with the decimal places of the key, and as one of
+/// integers if no key does. The cells of other columns may hold anything, and are skipped where they stand; a fault
+/// says in which column of the file it is. Each row has as many cells as the header.
 pub fn read_columns_as<H: Threads + Sync, R: CountedRead>(
     rt: &H,
     alloc: Global,

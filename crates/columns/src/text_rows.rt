@@ -1,17 +1,17 @@
 //! Rows of numbers and of cells that aren't looked at, read where they stand in a text, without `csv`.
-ghost use Rattle.std.specs.Prelude.{◌≡◌, ◌∷◌, ◌++◌, [], ◌<◌, ◌≤◌, ◌==◌, ◌||◌, ℕ, ℤ};
+ghost use Rattle.std.specs.Prelude.{◌≡◌, ◌∷◌, ◌++◌, [], ◌<◌, ◌≤◌, ◌==◌, ◌||◌, ℕ, ℤ, List};
 ghost use Rattle.std.specs.Prelude.{false, IfNone, IfSome, length, map, drop, get_or};
-ghost use Rattle.columns.specs.Layouts.{AreReadBy, Fits};
-ghost use Rattle.columns.specs.Number.{number_of};
-ghost use Rattle.columns.specs.TableForms.{filled};
-ghost use Rattle.columns.specs.TextRows.{HaveRows, IsBegun, IsMarkThere, IsNumberThere, IsRowIn};
-ghost use Rattle.columns.specs.TextRows.{IsSeparator, IsTextThere, cut_to, ends_cell, marked};
+ghost use Rattle.columns.specs.Layouts.{AreReadBy, Fits, looks_in, places_in};
+ghost use Rattle.columns.specs.TextRows.{HaveRows, IsBegun, IsCellThere, IsMarkThere, IsNumberThere, IsRowIn};
+ghost use Rattle.columns.specs.TextRows.{IsSeparator, IsTextThere, cut_to, ends_cell};
+ghost use Rattle.tables.specs.Table.{NamedColumn};
 ghost use Rattle.tables.specs.TableOfColumns.{named};
 
 use crate::cell::read_filled;
-use crate::layout::Layout;
+use crate::layout::{Layout, Look};
 use crate::numbers::short_number;
 use crate::text_cell::{cell_end, ends_cell, has_quote, mark_from, quote_from};
+use crate::text_decimals::put_decimals;
 use tables::Column;
 
 /// A number that was read, and where to read on: at the next field, or after the last one at the next record.
@@ -80,30 +80,57 @@ fn take_back(columns: &mut [Column], rows: usize)
 fn read_text_row(text: &[u8], at: usize, layout: &Layout, columns: &mut [Column]) -> Option<usize>
     requires within { at < length text.now }
     requires fits { Fits layout.now (length columns.old) }
-    ensures read { IfSome result (λ next. IsRowIn layout.now.separator layout.now.blank layout.now.marks.items
+    ensures read { IfSome result (λ next. IsRowIn layout.now.separator layout.now.blank (looks_in layout.now)
         (drop at text.now) (drop next text.now) (map named columns.old) (map named columns.new)) }
     ensures on { IfSome result (λ next. (at < next) × (next ≤ length text.now)) }
     ensures begun { IfNone result ((n : ℕ) → HaveRows n (map named columns.old)
         → IsBegun n (map named columns.old) (map named columns.new)) }
 {
-    let separator = layout.separator;
-    let blank = layout.blank;
-    let marks = layout.marks.as_slice();
-    let last = marks.len() - 1;
+    let looks = layout.looks.as_slice();
+    let last = looks.len() - 1;
     let mut next = at;
     let mut column = 0;
     for place in 0..last {
-        if marks[place] {
-            next = put_number(text, next, separator, blank, &mut columns[column], false)?;
-            column += 1;
-        } else {
-            next = pass_cell(text, next, separator, false)?;
-        }
+        let look = &looks[place];
+        next = put_cell_at(text, next, layout, look, &mut columns[column..], false)?;
+        column += look.places().len();
     }
-    if marks[last] {
-        put_number(text, next, separator, blank, &mut columns[column], true)
-    } else {
-        pass_cell(text, next, separator, true)
+    put_cell_at(
+        text,
+        next,
+        layout,
+        &looks[last],
+        &mut columns[column..],
+        true,
+    )
+}
+
+/// Puts the cell at `at` under the first columns, as its column is looked at, and answers where to read on, if the cell
+/// is the last of its row exactly if it is to be.
+#[inline(always)]
+fn put_cell_at(
+    text: &[u8],
+    at: usize,
+    layout: &Layout,
+    look: &Look,
+    columns: &mut [Column],
+    is_last: bool,
+) -> Option<usize>
+    requires within { at ≤ length text.now }
+    requires separator { IsSeparator layout.now.separator }
+    requires room { length (places_in look.now) ≤ length columns.old }
+    ensures read { IfSome result (λ next. IsCellThere layout.now.separator layout.now.blank (places_in look.now)
+        (drop at text.now) is_last (drop next text.now) (map named columns.old) (map named columns.new)) }
+    ensures on { IfSome result (λ next. (at < next) × (next ≤ length text.now)) }
+    ensures begun { (n : ℕ) (first : List NamedColumn) → HaveRows n first
+        → IsBegun n first (map named columns.old) → IsBegun n first (map named columns.new) }
+{
+    let separator = layout.separator;
+    let blank = layout.blank;
+    match look {
+        Look::Other => pass_cell(text, at, separator, is_last),
+        Look::Integers => put_number(text, at, separator, blank, &mut columns[0], is_last),
+        Look::Decimals(places) => put_decimals(text, at, layout, places, columns, is_last),
     }
 }
 

@@ -1,16 +1,19 @@
 -- An input gives one thing.
-use Rattle.std.proofs.Common.{◌≡◌, ◌≢◌, ◌⊎◌, inl, inr, ℕ, List, ◌++◌, Option, Some, None, Result, Ok, Err, take, refl, sym, ap, subst, ◌∙◌}
-use Rattle.std.specs.Prelude.{if◌then◌else◌}
+use Rattle.std.proofs.Common.{◌≡◌, ◌≢◌, ◌⊎◌, inl, inr, ℕ, Bool, true, false, nat_eq, List, [], ◌∷◌, ◌++◌, ◌&&◌, Option, Some, None, Result, Ok, Err, take, refl, sym, ap, subst, ◌∙◌}
+use Rattle.std.specs.Prelude.{◌||◌, codes, drop, nat_le, unwrap_or, if◌then◌else◌}
+use Rattle.std.specs.List.{list_all, starts_with}
 use Rattle.stream_tokens.specs.declared.job_text.JobText.{JobText}
 use Rattle.stream_tokens.specs.declared.job_text.TextFault.{TextFault}
-use Rattle.stream_tokens.specs.JobTexts.{job_texts_within, version_within}
+use Rattle.stream_tokens.specs.JobTexts.{NumberedLine, begins_blank, by_kind, job_texts_within, lines_in, named_version, said_version, version_digit, version_in, version_within, without_blanks}
 use Rattle.stream_tokens.proofs.VersionLemmas.{AreAlike, alike}
 use Rattle.columns.specs.declared.fault.ColumnFault.{ColumnFault}
 use Rattle.columns.specs.declared.fault.ColumnFault.TheVariants as column
 use Rattle.columns.specs.TableForms.{AbstractForm, default_form}
 use Rattle.columns.proofs.CutLemmas.{tables_are_as_before}
 use Rattle.job_names.specs.JobNames.{names_of_texts}
+use Rattle.run_settings.specs.Asked.{Asked}
 use Rattle.run_settings.specs.TableSettings.{integers}
+use Rattle.run_settings.specs.declared.settings.Form.{Form}
 use Rattle.run_settings.specs.declared.table.TableSetting.{TableSetting}
 use Rattle.tables.specs.Table.{NamedColumn}
 use Rattle.job_language.specs.declared.fault.JobFault.{JobFault}
@@ -18,11 +21,12 @@ use Rattle.job_language.specs.Files.{IsRefusedWithin, SpellsJobsWithin}
 use Rattle.job_language.specs.Jobs.{AbstractJob, names_of}
 use Rattle.job_language.proofs.EachFile.{each_file}
 use Rattle.job_language.proofs.LaterVersions.{no_earlier, reads_more}
+use Rattle.job_language.proofs.LineKinds.{HasKind, each_kind}
 use Rattle.job_language.proofs.OneFile.{left_once}
 use Rattle.job_meaning.specs.FileAnswers.{meaning_of}
 use Rattle.engine.specs.declared.fault.EngineFault.TheVariants as engine_fault
 use Rattle.engine.specs.Outcomes.{HasJobsRefused, HasOutcome, Outcome, columns_of, columns_refused, in_language, jobs_refused, reports}
-use Rattle.engine.specs.Run.{Faulted, Input, IsColumnFault, IsReport, Reported, columns_by, columns_given, form_with, report_in}
+use Rattle.engine.specs.Run.{Faulted, Input, IsColumnFault, IsReport, Reported, columns_by, columns_given, form_for, form_with, names_for, report_in}
 
 columns_once : (input : Input) (a b : List NamedColumn) → columns_given input ≡ Ok a → columns_given input ≡ Ok b → a ≡ b
 columns_once input a b h k = let e = sym h ∙ k in cc
@@ -89,24 +93,79 @@ pub cut_once : (input : Input) (before report : List ℕ) (after : Option (List 
 cut_once input before report None n h k = absurd h.3
 cut_once input before report (Some x) n h k = ap Some (h.3 ∙ ap (λ (r : List ℕ). before ++ take n r) (report_once input h.0 report h.1 k))
 
--- a file of jobs has the texts that it has where version 3 is the newest
-same_texts : (bytes : List ℕ) (columns : List NamedColumn) (jobs : List AbstractJob) → SpellsJobsWithin 2 bytes columns jobs → job_texts_within 2 bytes ≡ job_texts_within 3 bytes
+-- a file of jobs has the version and the texts that it has where version 3 is the newest
+same_texts : (bytes : List ℕ) (columns : List NamedColumn) (jobs : List AbstractJob) → SpellsJobsWithin 2 bytes columns jobs
+    → (version_within 2 bytes ≡ version_within 3 bytes) × (job_texts_within 2 bytes ≡ job_texts_within 3 bytes)
 same_texts bytes columns jobs h = by_likeness (alike bytes)
   where
-    by_likeness : AreAlike (version_within 3 bytes) (version_within 2 bytes) (job_texts_within 3 bytes) (job_texts_within 2 bytes) → job_texts_within 2 bytes ≡ job_texts_within 3 bytes
+    by_likeness : AreAlike (version_within 3 bytes) (version_within 2 bytes) (job_texts_within 3 bytes) (job_texts_within 2 bytes)
+        → (version_within 2 bytes ≡ version_within 3 bytes) × (job_texts_within 2 bytes ≡ job_texts_within 3 bytes)
     by_likeness (inl is) = absurd (no_earlier bytes columns jobs is h)
-    by_likeness (inr (version, texts)) = sym texts
+    by_likeness (inr (version, texts)) = (sym version, sym texts)
+
+-- version 3 isn't said
+abbrev IsEarly : ℕ → Type 0
+IsEarly v = nat_le 3 v ≡ false
+
+abbrev SaysEarly : Option ℕ → Type 0
+SaysEarly o = IsEarly (unwrap_or o 1)
+
+either_early : (b : Bool) (o p : Option ℕ) → SaysEarly o → SaysEarly p → SaysEarly (if b then o else p)
+either_early true o p h k = h
+either_early false o p h k = k
+
+by_both : (b : Bool) → SaysEarly (if b && false then Some 3 else None)
+by_both true = refl
+by_both false = refl
+
+digit_early : (bytes : List ℕ) → SaysEarly (named_version 2 bytes)
+digit_early [] = refl
+digit_early (d ∷ rest) = either_early (list_all _ rest) (version_digit 2 d) None (either_early (nat_eq d 50) (Some 2) _ refl (by_both (nat_eq d 51))) refl
+
+said_early : (line : List ℕ) → SaysEarly (said_version 2 line)
+said_early line =
+    let bytes = without_blanks line in
+    either_early (starts_with nat_eq bytes (codes "version") && begins_blank (drop 7 bytes)) (named_version 2 (without_blanks (drop 7 bytes))) None (digit_early (without_blanks (drop 7 bytes))) refl
+
+by_line : (line : NumberedLine) (lines : List NumberedLine) → HasKind line.bytes → IsEarly (version_in 2 lines) → SaysEarly (said_version 2 line.bytes) → IsEarly (version_in 2 (line ∷ lines))
+by_line line lines (inl e) h s = subst (λ k. IsEarly (by_kind k (version_in 2 lines) 1 (unwrap_or (said_version 2 line.bytes) 1))) (sym e) h
+by_line line lines (inr (inl e)) h s = subst (λ k. IsEarly (by_kind k (version_in 2 lines) 1 (unwrap_or (said_version 2 line.bytes) 1))) (sym e) refl
+by_line line lines (inr (inr e)) h s = subst (λ k. IsEarly (by_kind k (version_in 2 lines) 1 (unwrap_or (said_version 2 line.bytes) 1))) (sym e) s
+
+lines_early : (lines : List NumberedLine) → IsEarly (version_in 2 lines)
+lines_early [] = refl
+lines_early (line ∷ lines) = by_line line lines (each_kind line.bytes) (lines_early lines) (said_early line.bytes)
+
+-- where version 2 is the newest, no file is of version 3
+version_below : (bytes : List ℕ) → nat_le 3 (version_within 2 bytes) ≡ false
+unfolding version_within
+version_below bytes = lines_early (lines_in bytes)
+
+either_kept : (named b : Bool) → b ≡ false → (named || (true && b)) ≡ (named || false)
+either_kept named b h = ap (λ (t : Bool). named || (true && t)) h
+
+-- the names by which a file of an earlier version looks at columns, where version 3 is the newest
+names_kept : (table : TableSetting) (form : Form) (bytes : List ℕ) → version_within 2 bytes ≡ version_within 3 bytes → job_texts_within 2 bytes ≡ job_texts_within 3 bytes
+    → names_for (record { form = form; newest = 2; table = table }) bytes ≡ names_for (record { form = form; newest = 3; table = table }) bytes
+names_kept table form bytes version texts =
+    let below : nat_le 3 (version_within 3 bytes) ≡ false = ap (nat_le 3) (sym version) ∙ version_below bytes in
+    ap (λ (c : Bool). if c then names_of_texts (job_texts_within 2 bytes) else []) (sym (either_kept table.only_named (nat_le 3 (version_within 3 bytes)) below))
+    ∙ ap (λ (t : Result (List JobText) TextFault). if table.only_named || (true && nat_le 3 (version_within 3 bytes)) then names_of_texts t else []) texts
 
 pub later_report : (input : Input) (report : List ℕ) → input.asked.newest ≡ 2 → IsReport input report → IsReport (in_language 3 input) report
 later_report input report two h =
     let spelled = subst (λ (n : ℕ). SpellsJobsWithin n input.jobs h.columns h.jobs) two h.spelled in
-    let texts = ap (λ (n : ℕ). job_texts_within n input.jobs) two ∙ same_texts input.jobs h.columns h.jobs spelled in
-    let given = subst (λ (t : Result (List JobText) TextFault). columns_by (form_with input.asked.table (if input.asked.table.only_named then Some (names_of_texts t) else None)) input.columns ≡ Ok h.columns) texts h.given in
+    let (version, texts) = same_texts input.jobs h.columns h.jobs spelled in
+    let names = ap (λ (n : ℕ). names_for (record { form = input.asked.form; newest = n; table = input.asked.table }) input.jobs) two ∙ names_kept input.asked.table input.asked.form input.jobs version texts in
+    let given = subst (λ (ns : List (List ℕ)). columns_by (form_with input.asked.table ns) input.columns ≡ Ok h.columns) names h.given in
     record { columns = h.columns; given = given; jobs = h.jobs; spelled = reads_more input.jobs h.columns h.jobs spelled; written = h.written }
 
-pub as_before : (input : Input) → input.asked.table ≡ integers → columns_given input ≡ columns_of input.columns
-as_before input is = ap (λ (t : TableSetting). columns_by (form_with t (if t.only_named then Some (names_of_texts (job_texts_within input.asked.newest input.jobs)) else None)) input.columns) is ∙ by_file input.columns
+pub as_before : (input : Input) → input.asked.table ≡ integers → input.asked.newest ≡ 2 → columns_given input ≡ columns_of input.columns
+as_before input is two = ap (λ (a : Asked). columns_by (form_for a input.jobs) input.columns) (asked_for input.asked is two) ∙ by_file input.columns
   where
+    asked_for : (asked : Asked) → asked.table ≡ integers → asked.newest ≡ 2 → asked ≡ record { form = asked.form; newest = 2; table = integers }
+    asked_for asked h k = rw (h, k) refl
+
     by_file : (file : Option (List ℕ)) → columns_by default_form file ≡ columns_of file
     by_file None = refl
     by_file (Some bytes) = tables_are_as_before bytes

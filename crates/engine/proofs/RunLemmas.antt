@@ -1,6 +1,6 @@
 -- What a run is given and gives: its two files, its report, and the faults before the report is written.
 use Rattle.std.proofs.Common.{◌≡◌, ◌≢◌, ℕ, List, [], Bool, true, false, Option, Some, None, Result, Ok, Err, IfSome, IfErr, OnOk, refl, sym, ap, subst, ◌∙◌}
-use Rattle.std.specs.Prelude.{if◌then◌else◌}
+use Rattle.std.specs.Prelude.{◌||◌, ◌&&◌, nat_le, if◌then◌else◌}
 use Rattle.std.specs.Borrow.{MutBor}
 use Rattle.std.specs.Io.KnownBytes.{Keeps}
 use Rattle.columns.specs.declared.fault.ColumnFault.{ColumnFault}
@@ -10,12 +10,12 @@ use Rattle.columns.specs.TableForms.{AbstractForm, cells_by}
 use Rattle.tables.specs.Table.{NamedColumn}
 use Rattle.job_names.specs.JobNames.{names_of_texts}
 use Rattle.run_settings.specs.Asked.{Asked}
-use Rattle.stream_tokens.specs.JobTexts.{job_texts_within}
+use Rattle.stream_tokens.specs.JobTexts.{job_texts_within, version_within}
 use Rattle.engine.specs.declared.fault.EngineFault.{EngineFault}
 use Rattle.engine.specs.declared.fault.EngineFault.TheVariants.{Columns, Jobs, JobsRead, NoMemory, Write}
 use Rattle.engine.specs.Given.{HoldsOver, HoldsWith, IsFile, IsGiven, IsWhole}
 use Rattle.engine.specs.Refused.{IsCutShort, IsEarly, IsUnread}
-use Rattle.engine.specs.Run.{Input, Faulted, HasColumns, IsReport, Says, columns_by, form_for, form_with}
+use Rattle.engine.specs.Run.{Input, Faulted, HasColumns, IsReport, Says, columns_by, form_for, form_with, reads_by_jobs}
 
 -- ---- the files
 
@@ -40,12 +40,16 @@ answered_err form bytes (Err h) f answer is =
     let same : h ≡ f = let e = is in cc in
     subst (λ (k : ColumnFault). k ≢ column.Read → k ≢ column.NoMemory → cells_by form bytes ≡ Err k) same answer
 
--- the form, where all columns are looked at and where the named ones are
-all_columns : (asked : Asked) (bytes : List ℕ) → asked.table.only_named ≡ false → form_with asked.table None ≡ form_for asked bytes
-all_columns asked bytes not_named = ap (λ (c : Bool). form_with asked.table (if c then Some (names_of_texts (job_texts_within asked.newest bytes)) else None)) (sym not_named)
+not_read : (named newest said : Bool) → (named || newest) ≡ false → (named || (newest && said)) ≡ false
+not_read true newest said h = h
+not_read false true said h = absurd (cc)
+not_read false false said h = refl
 
-pub named_columns : (asked : Asked) (bytes : List ℕ) → asked.table.only_named ≡ true → form_with asked.table (Some (names_of_texts (job_texts_within asked.newest bytes))) ≡ form_for asked bytes
-named_columns asked bytes named = ap (λ (c : Bool). form_with asked.table (if c then Some (names_of_texts (job_texts_within asked.newest bytes)) else None)) (sym named)
+-- the form, where it doesn't depend on the job file
+by_no_job : (asked : Asked) (bytes : List ℕ) → reads_by_jobs asked ≡ false → form_with asked.table [] ≡ form_for asked bytes
+by_no_job asked bytes h =
+    ap (λ (c : Bool). form_with asked.table (if c then names_of_texts (job_texts_within asked.newest bytes) else []))
+    (sym (not_read asked.table.only_named (nat_le 3 asked.newest) (nat_le 3 (version_within asked.newest bytes)) h))
 
 -- the file that the optional reader has left has this table, whatever the job file
 pub record HasTable {C : Type 0} (remaining : C → Option (List ℕ)) (columns : Option (MutBor C)) (asked : Asked) (table : List NamedColumn) : Type 0 where
@@ -54,12 +58,12 @@ pub record HasTable {C : Type 0} (remaining : C → Option (List ℕ)) (columns 
   pub gives : (bytes : List ℕ) → columns_by (form_for asked bytes) file ≡ Ok table
 
 pub some_table : {C : Type 0} (remaining : C → Option (List ℕ)) (columns : Option (MutBor C)) (asked : Asked) (table : List NamedColumn) (reader : MutBor C) (r : Result (List NamedColumn) ColumnFault) → columns ≡ Some reader
-    → asked.table.only_named ≡ false → ((bytes : List ℕ) × IsWhole (remaining reader.now) bytes × IsAnswerBy (form_with asked.table None) bytes r) → r ≡ Ok table → HasTable remaining columns asked table
-some_table remaining columns asked table reader r is not_named (bytes, whole, answer) ok =
+    → reads_by_jobs asked ≡ false → ((bytes : List ℕ) × IsWhole (remaining reader.now) bytes × IsAnswerBy (form_with asked.table []) bytes r) → r ≡ Ok table → HasTable remaining columns asked table
+some_table remaining columns asked table reader r is not_by_jobs (bytes, whole, answer) ok =
     record {
       file = Some bytes;
       is = rw is (bytes, refl, whole);
-      gives = λ jobs. subst (λ (form : AbstractForm). cells_by form bytes ≡ Ok table) (all_columns asked jobs not_named) (answered_ok (form_with asked.table None) bytes r table answer ok);
+      gives = λ jobs. subst (λ (form : AbstractForm). cells_by form bytes ≡ Ok table) (by_no_job asked jobs not_by_jobs) (answered_ok (form_with asked.table []) bytes r table answer ok);
     }
 
 pub no_table : {C : Type 0} (remaining : C → Option (List ℕ)) (columns : Option (MutBor C)) (asked : Asked) (table : List NamedColumn) → columns ≡ None → table ≡ [] → HasTable remaining columns asked table
@@ -69,12 +73,12 @@ no_table remaining columns asked table is none_there = record { file = None; is 
 
 -- a refused column file; the job file is any that its reader may hold
 pub columns_refused : {C : Type 0} (remaining : C → Option (List ℕ)) (columns : Option (MutBor C)) (jobs : Option (List ℕ)) (asked : Asked) (before after : Option (List ℕ)) (reader : MutBor C)
-    (r : Result (List NamedColumn) ColumnFault) (f : ColumnFault) → columns ≡ Some reader → asked.table.only_named ≡ false
-    → ((bytes : List ℕ) × IsWhole (remaining reader.now) bytes × IsAnswerBy (form_with asked.table None) bytes r) → r ≡ Err f
+    (r : Result (List NamedColumn) ColumnFault) (f : ColumnFault) → columns ≡ Some reader → reads_by_jobs asked ≡ false
+    → ((bytes : List ℕ) × IsWhole (remaining reader.now) bytes × IsAnswerBy (form_with asked.table []) bytes r) → r ≡ Err f
     → Keeps before after → (input : Input) × IsGiven remaining columns jobs asked input × Faulted input before after (Columns f)
-columns_refused remaining columns jobs asked before after reader r f is not_named (bytes, whole, answer) err keeps =
+columns_refused remaining columns jobs asked before after reader r f is not_by_jobs (bytes, whole, answer) err keeps =
     let rest = some_whole jobs in
-    let refused = subst (λ (form : AbstractForm). f ≢ column.Read → f ≢ column.NoMemory → cells_by form bytes ≡ Err f) (all_columns asked rest.0 not_named) (answered_err (form_with asked.table None) bytes r f answer err) in
+    let refused = subst (λ (form : AbstractForm). f ≢ column.Read → f ≢ column.NoMemory → cells_by form bytes ≡ Err f) (by_no_job asked rest.0 not_by_jobs) (answered_err (form_with asked.table []) bytes r f answer err) in
     (record { columns = Some bytes; jobs = rest.0; asked = asked }, record { columns_file = rw is (bytes, refl, whole); jobs_file = rest.1; asked_for = refl }, (refused, keeps))
 
 -- a job file that isn't read says that there are columns, if they were read before
@@ -82,16 +86,16 @@ pub unread_says : (input : Input) (f : EngineFault) → IsUnread f → HasColumn
 unread_says input (Columns f) unread columns = absurd unread
 unread_says input (Write n) unread columns = absurd unread
 unread_says input (Jobs f) unread columns = absurd unread
-unread_says input JobsRead unread columns = λ all_looked_at. columns
-unread_says input NoMemory unread columns = λ all_looked_at. columns
+unread_says input JobsRead unread columns = λ by_jobs_not. columns
+unread_says input NoMemory unread columns = λ by_jobs_not. columns
 
 -- it says nothing of the columns, if they are read after it
-pub unread_named : (input : Input) (f : EngineFault) → input.asked.table.only_named ≡ true → IsUnread f → Says input f
-unread_named input (Columns f) named unread = absurd unread
-unread_named input (Write n) named unread = absurd unread
-unread_named input (Jobs f) named unread = absurd unread
-unread_named input JobsRead named unread = λ all_looked_at. absurd (let e : true ≡ false = sym named ∙ all_looked_at in cc)
-unread_named input NoMemory named unread = λ all_looked_at. absurd (let e : true ≡ false = sym named ∙ all_looked_at in cc)
+pub unread_by_jobs : (input : Input) (f : EngineFault) → reads_by_jobs input.asked ≡ true → IsUnread f → Says input f
+unread_by_jobs input (Columns f) named unread = absurd unread
+unread_by_jobs input (Write n) named unread = absurd unread
+unread_by_jobs input (Jobs f) named unread = absurd unread
+unread_by_jobs input JobsRead named unread = λ by_jobs_not. absurd (let e : true ≡ false = sym named ∙ by_jobs_not in cc)
+unread_by_jobs input NoMemory named unread = λ by_jobs_not. absurd (let e : true ≡ false = sym named ∙ by_jobs_not in cc)
 
 pub unread_early : (f : EngineFault) → IsUnread f → IsEarly f
 unread_early (Columns f) unread = absurd unread

@@ -9,7 +9,7 @@ use Rattle.run_settings.specs.Asked.{Asked}
 use Rattle.counted_io.specs.FailureCounts.{HasRisen}
 use Rattle.engine.specs.declared.fault.EngineFault.{EngineFault}
 use Rattle.engine.specs.declared.fault.EngineFault.TheVariants.{Columns, JobsRead, Write}
-use Rattle.engine.specs.Run.{Faulted, Input, Reported, columns_by, form_for}
+use Rattle.engine.specs.Run.{Faulted, Input, Reported, columns_by, form_for, reads_by_jobs}
 
 -- these are the bytes that a reader has left, if it is known which these are
 abbrev pub IsWhole : Option (List ℕ) → List ℕ → Type 0
@@ -65,7 +65,7 @@ pub record CountedBytes : Type 0 where
 -- failed read or write was counted
 pub record IsLeft {X : Type 0} (asked : Asked) (jobs jobs_after writer writer_after : CountedBytes) (answer : Result X EngineFault) : Type 0 where
   pub read_up : OnOk answer (IsAtEnd jobs_after.bytes)
-  pub unread : asked.table.only_named ≡ false → IfErr answer (λ fault. (cause : ColumnFault) → fault ≡ Columns cause → (jobs_after.bytes ≡ jobs.bytes) × (jobs_after.failures ≡ jobs.failures))
+  pub unread : reads_by_jobs asked ≡ false → IfErr answer (λ fault. (cause : ColumnFault) → fault ≡ Columns cause → (jobs_after.bytes ≡ jobs.bytes) × (jobs_after.failures ≡ jobs.failures))
   pub unwritten : IfErr answer (λ fault. ((n : ℕ) → fault ≢ Write n) → Keeps writer.bytes writer_after.bytes)
   pub untouched : IfErr answer (λ fault. ((n : ℕ) → fault ≢ Write n) → writer_after.failures ≡ writer.failures)
   pub read_failed : IfErr answer (λ fault. fault ≡ JobsRead → HasRisen jobs.failures jobs_after.failures)

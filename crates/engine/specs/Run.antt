@@ -23,7 +23,7 @@ use Rattle.job_language.specs.declared.fault.JobFault.{JobFault}
 use Rattle.job_language.specs.Files.{IsRefusedWithin}
 use Rattle.engine.specs.declared.fault.EngineFault.{EngineFault}
 use Rattle.engine.specs.declared.fault.EngineFault.TheVariants.{Columns, Jobs, JobsRead, NoMemory, Write}
-pub use Rattle.report.specs.Reports.{Input, IsReport, columns_by, columns_given, form_for, form_with, report_in}
+pub use Rattle.report.specs.Reports.{Input, IsReport, columns_by, columns_given, form_for, form_with, names_for, reads_by_jobs, report_in}
 
 -- a writer that held these bytes before and those after took the report and nothing else
 abbrev pub Reported : Input → Option (List ℕ) → Option (List ℕ) → Type 0
@@ -45,13 +45,13 @@ pub record IsJobFault (input : Input) (f : JobFault) : Type 0 where
   pub refused : f.cause ≢ cause.NoMemory → IsRefusedWithin input.asked.newest input.jobs columns f
   pub memory : f.cause ≡ cause.NoMemory → f.line ≡ 0
 
--- what a fault other than a failed write says of the input; the job file is read first if only the columns that jobs
--- name are looked at
+-- what a fault other than a failed write says of the input; the job file is read first if how the column file is read
+-- depends on it
 abbrev pub Says : Input → EngineFault → Type 0
 Says input (Columns f) = IsColumnFault (form_for input.asked input.jobs) input.columns f
 Says input (Jobs f) = IsJobFault input f
-Says input JobsRead = input.asked.table.only_named ≡ false → HasColumns input
-Says input NoMemory = input.asked.table.only_named ≡ false → HasColumns input
+Says input JobsRead = reads_by_jobs input.asked ≡ false → HasColumns input
+Says input NoMemory = reads_by_jobs input.asked ≡ false → HasColumns input
 Says input (Write n) = ⊥
 
 -- what a fault says of the input, and what the writer then holds: after a failed write the first bytes of the report

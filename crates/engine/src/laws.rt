@@ -45,10 +45,11 @@ pub fn worked_files()
     ensures one { HasOutcome in_version_one (jobs_refused (record { line = 1; cause = cause.Syntax })) }
 {}
 
-/// Where a table of integers with commas is asked for, whose columns are all looked at, an input gives the columns of
-/// its file whatever its jobs.
+/// Where a table of integers with commas is asked for, whose columns are all looked at, and version 2 of the language
+/// is the newest, an input gives the columns of its file whatever its jobs.
 pub fn by_default_tables_of_integers_are_read()
-    ensures { (input : Input) → input.asked.table ≡ integers → columns_given input ≡ columns_of input.columns }
+    ensures { (input : Input) → input.asked.table ≡ integers → input.asked.newest ≡ 2
+        → columns_given input ≡ columns_of input.columns }
 {}
 
 /// A report where version 2 of the language is the newest is the report where version 3 is.

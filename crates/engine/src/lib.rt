@@ -15,6 +15,7 @@ mod gate;
 mod laws;
 mod reporting;
 mod running;
+mod table;
 mod telling;
 
 pub use fault::EngineFault;

@@ -1,46 +1,41 @@
 //! A run: from the bytes of the column file and of the job file to the bytes of the report.
 
-ghost use Rattle.columns.specs.Layouts.{IsAnswerBy};
 ghost use Rattle.counted_io.specs.FailureCounts.{HasRisen};
 ghost use Rattle.engine.specs.Given.{HasRisenThere, HoldsOver, HoldsWith, IsAtEndThere, IsGiven, IsWhole};
 ghost use Rattle.engine.specs.Refused.{IsCutShort, IsEarly, IsUnread};
-ghost use Rattle.engine.specs.Run.{Faulted, Input, IsReport, Reported, Says, form_with};
+ghost use Rattle.engine.specs.Run.{Faulted, Input, IsReport, Reported, Says, reads_by_jobs};
 ghost use Rattle.run_settings.specs.Asked.{asked_of};
-ghost use Rattle.run_settings.specs.SettingsParts.{table_of};
 ghost use Rattle.std.specs.Io.KnownBytes.{Appends, IsAtEnd, Keeps};
-ghost use Rattle.std.specs.Prelude.{◌≡◌, ◌≢◌, ◌≤◌, ℕ, false, true, List, map, option_map, IfErr, IfOk, OnErr, OnOk};
+ghost use Rattle.std.specs.Prelude.{◌≡◌, ◌≢◌, ℕ, false, true, IfErr, IfOk, OnErr, OnOk};
 
 use crate::fault::EngineFault;
 use crate::gate::RunGate;
 use crate::reporting::report_of;
-use columns::{ColumnFault, Columns, TableForm, read_columns_as};
+use crate::table::{names_for, read_table, reads_by_jobs};
+use columns::{ColumnFault, Columns};
 use counted_io::{CountedRead, CountedWrite, ReadAllFault, WriteFault, read_all_of};
-use job_names::names_in;
 use report::{Report, write_report};
 use run_settings::Settings;
 use std::alloc::Global;
 use std::sync::Wait;
 use std::thread::Threads;
-use stream_tokens::JobTexts;
-
-/// How many bytes of a column file one thread reads at a time, at most.
-const PIECE: usize = 4 * 1024 * 1024;
-
-/// How many bytes all threads read at a time, at most.
-const ROUND: usize = 4 * PIECE;
 
 /// Reads the columns, if there is a reader of them, then the job file whole; checks the jobs, runs them,
 /// builds the report whole and writes it.
 ///
-/// The columns are read and the jobs run on threads, no more than the settings say. A piece of at most the threshold is
-/// never cut; a longer one is, while nodes last, unless the walk goes through a slice that doesn't select positions of
-/// the source. The gate is called before each piece, and one that does nothing will do. None of this changes the
-/// report. Where the settings look only at the columns that jobs name, the job file is read first, and a column file is
-/// refused before its jobs all the same. The cells of the columns, the job file and the report are each held in memory
-/// once. While the cells are
-/// read, the bytes of a column file of at most 4 MiB for each thread, and 16 MiB in all, are held whole, of a longer
-/// one twice that many, or all that are left from a row with quotes on; the cells of one piece for each thread are held
-/// beside. If the column file is refused, the job file isn't read.
+/// The columns are read and the jobs run on threads, no more than the settings say. A piece of at most the threshold
+/// is never cut; a longer one is, while nodes last, unless the walk goes through a slice that doesn't select
+/// positions of the source. The gate is called before each piece, and one that does nothing will do. None of this
+/// changes the report.
+///
+/// The column file is read first, and the job file isn't read if it is refused. Where the settings look at named
+/// columns alone or read version 3, the job file says how columns are read: then it is read first, and a column file
+/// is refused before its jobs all the same.
+///
+/// The cells of the columns, the job file and the report are each held in memory once. While the cells are read, the
+/// bytes of a column file of at most 4 MiB for each thread, and 16 MiB in all, are held whole, of a longer one twice
+/// that many, or all that are left from a row with quotes on; the cells of one piece for each thread are held
+/// beside.
 pub fn run<
     H: Threads + Wait + Sync,
     C: CountedRead,
@@ -68,7 +63,7 @@ pub fn run<
     ensures read_up { OnOk result (IsAtEnd (J.remaining jobs.new)) }
     ensures columns_read_up { OnOk result (IsAtEndThere C.remaining columns.entry columns.exit) }
 
-    ensures unread { (table_of settings.now).only_named ≡ false
+    ensures unread { reads_by_jobs (asked_of settings.now) ≡ false
         → IfErr result (λ fault. (cause : ColumnFault) → fault ≡ EngineFault.Columns cause →
         (J.remaining jobs.new ≡ J.remaining jobs.old) × (J.failures jobs.new ≡ J.failures jobs.old)) }
     ensures unwritten { IfErr result (λ fault. ((n : ℕ) → fault ≢ EngineFault.Write n) →
@@ -84,10 +79,10 @@ pub fn run<
 {
     match columns {
         Some(reader) => {
-            if settings.table().only_named {
+            if reads_by_jobs(settings) {
                 return run_named(rt, alloc, reader, jobs, writer, settings, gate);
             }
-            let table = match read_table(rt, alloc, reader, settings, None) {
+            let table = match read_table(rt, alloc, reader, settings, Vec::new(alloc)) {
                 Ok(table) => table,
                 Err(fault) => return Err(EngineFault::Columns(fault)),
             };
@@ -154,7 +149,7 @@ fn report_from<H: Threads + Wait + Sync, J: CountedRead, G: RunGate + Sync>(
     report_of(rt, alloc, columns, &bytes, settings, gate)
 }
 
-/// The run where only the columns that jobs name are looked at: the job file is read first, then these columns.
+/// The run where how the columns are read depends on the job file: it is read first.
 fn run_named<
     H: Threads + Wait + Sync,
     C: CountedRead,
@@ -170,7 +165,7 @@ fn run_named<
     settings: &Settings,
     gate: &G,
 ) -> Result<(), EngineFault>
-    requires { (table_of settings.now).only_named ≡ true }
+    requires { reads_by_jobs (asked_of settings.now) ≡ true }
     ensures report { OnOk result (HoldsOver (C.remaining columns.old) (J.remaining jobs.old) (asked_of settings.now)
         (λ input. Reported input (W.contents writer.old) (W.contents writer.new))) }
     ensures fault { IfErr result (λ fault. HoldsOver (C.remaining columns.old) (J.remaining jobs.old)
@@ -195,7 +190,7 @@ fn run_named<
     send(writer, &report, gate)
 }
 
-/// The report of the job file that this reader has left, over the columns that its jobs name.
+/// The report of the job file that this reader has left, over columns that are read as it asks.
 fn report_named<H: Threads + Wait + Sync, C: CountedRead, J: CountedRead, G: RunGate + Sync>(
     rt: &H,
     alloc: Global,
@@ -204,7 +199,7 @@ fn report_named<H: Threads + Wait + Sync, C: CountedRead, J: CountedRead, G: Run
     settings: &Settings,
     gate: &G,
 ) -> Result<Report, EngineFault>
-    requires { (table_of settings.now).only_named ≡ true }
+    requires { reads_by_jobs (asked_of settings.now) ≡ true }
     ensures ok { IfOk result (λ report. HoldsOver (C.remaining columns.old) (J.remaining jobs.old)
         (asked_of settings.now) (λ input. IsReport input report)) }
     ensures err { IfErr result (λ fault. HoldsOver (C.remaining columns.old) (J.remaining jobs.old)
@@ -221,41 +216,14 @@ fn report_named<H: Threads + Wait + Sync, C: CountedRead, J: CountedRead, G: Run
         Ok(bytes) => bytes,
         Err(fault) => return Err(fault),
     };
-    let mut texts = JobTexts::within(settings.language().newest(), &bytes);
-    let Ok(names) = names_in(alloc, &mut texts) else {
+    let Ok(names) = names_for(alloc, settings, &bytes) else {
         return Err(EngineFault::NoMemory);
     };
-    let table = match read_table(rt, alloc, columns, settings, Some(names)) {
+    let table = match read_table(rt, alloc, columns, settings, names) {
         Ok(table) => table,
         Err(fault) => return Err(EngineFault::Columns(fault)),
     };
     report_of(rt, alloc, &table, &bytes, settings, gate)
-}
-
-/// The columns that a file gives in the form that the settings ask for; of these names alone, if some are given.
-fn read_table<H: Threads + Sync, C: CountedRead>(
-    rt: &H,
-    alloc: Global,
-    reader: &mut C,
-    settings: &Settings,
-    names: Option<Vec<Vec<u8>>>,
-) -> Result<Columns, ColumnFault>
-    ensures answer { (bytes : List ℕ) × IsWhole (C.remaining reader.old) bytes
-        × IsAnswerBy (form_with (table_of settings.now)
-        (option_map (λ names. map (λ name. name.items) names.items) names)) bytes result }
-    ensures end { OnOk result (IsAtEnd (C.remaining reader.new)) }
-    ensures read { IfErr result (λ fault. fault ≡ ColumnFault.Read
-        → HasRisen (C.failures reader.old) (C.failures reader.new)) }
-{
-    let workers = settings.workers() as usize;
-    let piece = PIECE.min(ROUND / workers);
-    let table = settings.table();
-    let form = TableForm {
-        separator: table.separator,
-        names,
-        blank: table.blank,
-    };
-    read_columns_as(rt, alloc, reader, workers, piece, &form)
 }
 
 /// The bytes that a reader of a job file has left.

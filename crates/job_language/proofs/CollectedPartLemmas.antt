@@ -2,7 +2,7 @@
 use Rattle.std.proofs.Common.{◌≡◌, ◌≢◌, ℕ, suc, ◌+◌, ◌<◌, List, [], ◌∷◌, ◌++◌, length, drop, get_or, None, Err, refl, sym, ap, ◌∙◌, arith}
 use Rattle.std.proofs.lemmas.List.{drop_more}
 use Rattle.stream_tokens.specs.declared.symbol.Symbol.TheVariants as symbol
-use Rattle.lambda_expr.specs.Words.{Word, named, quoted, sign}
+use Rattle.lambda_expr.specs.Words.{Word, named, numeral, quoted, sign}
 use Rattle.lambda_expr.specs.Refusals.{IsRefusedWithin}
 use Rattle.lambda_expr.specs.declared.fault.ReadFault.{ReadFault}
 use Rattle.lambda_expr.specs.declared.fault.ReadFault.TheVariants as fault
@@ -10,7 +10,7 @@ use Rattle.lambda_expr.specs.declared.want.Want.{Want}
 use Rattle.job_language.specs.declared.operation.Operation.{Operation}
 use Rattle.job_language.specs.declared.fault.Cause.{Cause}
 use Rattle.job_language.specs.declared.fault.Cause.TheVariants as cause
-use Rattle.job_language.specs.Table.{name_in, param_of, string_in}
+use Rattle.job_language.specs.Table.{name_in, param_of, places_in, string_in}
 use Rattle.job_language.specs.FaultCauses.{cause_of}
 use Rattle.job_language.specs.Causes.{Scope, number_in, numbers_of}
 use Rattle.job_language.specs.Operators.{method_in}
@@ -23,12 +23,18 @@ values_more o n i xs lt =
     ap (λ v. numbers_of o n i v) (drop_more xs i [] lt)
     ∙ ap (λ k. number_in (param_of o n i) (get_or xs i []) ++ numbers_of o n k (drop (i + 1) xs)) e
 
--- words too few or too many for a name or a string
+-- words too few or too many for a name, a string or places
 pub no_string : (ws : List Word) → (length ws ≡ 1 → ⊥) → None ≡ string_in ws
 no_string [] h = refl
 no_string (a ∷ []) h = absurd (h refl)
 no_string (quoted w ∷ b ∷ ws) h = refl
 no_string (a ∷ b ∷ ws) h = refl
+
+pub no_places : (ws : List Word) → (length ws ≡ 1 → ⊥) → None ≡ places_in ws
+no_places [] h = refl
+no_places (a ∷ []) h = absurd (h refl)
+no_places (numeral w ∷ b ∷ ws) h = refl
+no_places (a ∷ b ∷ ws) h = refl
 
 pub no_name : (ws : List Word) → (length ws ≡ 1 → ⊥) → None ≡ name_in ws
 no_name [] h = refl

@@ -18,12 +18,12 @@ use Rattle.job_language.specs.declared.fault.Cause.TheVariants as cause
 use Rattle.job_language.specs.declared.operation.Param.{Param}
 use Rattle.job_language.specs.declared.operation.Param.TheVariants as param
 use Rattle.job_language.specs.Rows.{AbstractCall, Argument, nothing, exact}
-use Rattle.job_language.specs.Table.{name_in, role_of, string_in}
+use Rattle.job_language.specs.Table.{name_in, role_of}
 use Rattle.job_language.specs.Grammar.{Job, IsJob, IsNoJob}
 use Rattle.job_language.specs.Jobs.{AbstractJob}
 use Rattle.job_language.specs.Causes.{Scope, first_cause, stage_cause, early_causes, goes_over_rows, numbers_of}
 use Rattle.job_language.specs.Operators.{is_add_exact, spelled_op}
-use Rattle.job_language.specs.Arguments.{PlacedCall, IsOutcome, lambda_answer, reads_cells, IsLambdaRead, IsOperatorRead, IsReadBy, IsArgumentRead, last_param, last_part, argument_text, listed, name_answer, text_answer}
+use Rattle.job_language.specs.Arguments.{PlacedCall, IsOutcome, lambda_answer, reads_cells, IsLambdaRead, IsOperatorRead, IsReadBy, IsArgumentRead, key_answer, key_in, last_param, last_part, argument_text, listed, name_answer}
 use Rattle.job_language.specs.Verdicts.{BegunJob, call_answer, added, below_terminal, finished, IsNextCall, job_named, placed_calls, IsReadAfter, IsReadInTurn, AreRead, IsJobRead, IsRead, scope_over}
 use Rattle.job_language.specs.Verdicts as verdict
 use Rattle.job_language.specs.Parts.{causes_before}
@@ -49,17 +49,18 @@ each_operator true o s text = (Ok exact, refl)
 each_operator false (Some f) s text = (listed f, refl)
 each_operator false None s text = each_lambda s text want.Pair
 
-each_by : (p : Param) (s : Scope) (ws : List Word) (text : List ℕ) → (r : Result Argument Cause) × IsReadBy p s ws text r
-each_by param.Number s ws text = (Ok nothing, refl)
-each_by param.Text s ws text = (text_answer s (string_in ws), refl)
-each_by param.Name s ws text = (name_answer s (name_in ws), refl)
-each_by param.Long s ws text = each_lambda s text want.Long
-each_by param.Bool s ws text = each_lambda s text want.Bool
-each_by param.Stream s ws text = each_lambda s text want.Stream
-each_by param.Operator s ws text = each_operator (is_add_exact ws) (spelled_op ws) s text
+each_by : (p : Param) (s : Scope) (xs : List (List Word)) (text : List ℕ) → (r : Result Argument Cause) × IsReadBy p s xs text r
+each_by param.Number s xs text = (Ok nothing, refl)
+each_by param.Text s xs text = (key_answer s (key_in xs), refl)
+each_by param.Places s xs text = (key_answer s (key_in xs), refl)
+each_by param.Name s xs text = (name_answer s (name_in (last_part xs)), refl)
+each_by param.Long s xs text = each_lambda s text want.Long
+each_by param.Bool s xs text = each_lambda s text want.Bool
+each_by param.Stream s xs text = each_lambda s text want.Stream
+each_by param.Operator s xs text = each_operator (is_add_exact (last_part xs)) (spelled_op (last_part xs)) s text
 
 each_argument : (s : Scope) (t : TokenizedText) (c : PlacedCall) → (r : Result Argument Cause) × IsArgumentRead s t c r
-each_argument s t c = each_by (last_param c.call.operation c.call.parts) s (last_part c.call.parts) (argument_text t c).bytes
+each_argument s t c = each_by (last_param c.call.operation c.call.parts) s c.call.parts (argument_text t c).bytes
 
 each_after : (o : Option Cause) (s : Scope) (t : TokenizedText) (c : PlacedCall) → (r : Result AbstractCall Cause) × IsReadAfter o s t c r
 each_after (Some e) s t c = (Err e, refl)

@@ -5,15 +5,15 @@ use Rattle.lambda_expr.specs.Words.{Word}
 use Rattle.job_language.specs.declared.piece.WrittenCall as written
 use Rattle.job_language.specs.declared.fault.Cause.{Cause}
 use Rattle.job_language.specs.declared.fault.Cause.TheVariants.{Syntax, TooLong}
-use Rattle.job_language.specs.Table.{role_of, version_of_operation}
+use Rattle.job_language.specs.Table.{role_of}
 use Rattle.job_language.specs.Calls.{Call, call_words}
 use Rattle.job_language.specs.Arguments.{PlacedCall}
 use Rattle.job_language.specs.Verdicts.{placed}
 use Rattle.job_language.specs.Grammar.{Source, Sources, plain, concat, two, more, Job, Piece, call, close, comma, piece_words, job_pieces, calls_of, source_pieces, sources_pieces, plain_sources, fallback_calls, job_calls, IsSource, AreSources, AreStages, IsFallback, IsSpelled, IsJob}
 use Rattle.job_language.specs.Shapes.{call_in, calls_in, all_placed, StandsIn, StandIn, AreCallsIn, one_if_source, sources_in, begins_with_column, has_one_column, first_name}
-use Rattle.job_language.specs.Causes.{Scope, first_cause, when, has_later_call, version_cause, name_causes, sources_cause, is_column, is_one_column, goes_over_rows, causes_of}
+use Rattle.job_language.specs.Causes.{Scope, first_cause, when, has_later_call, version_cause, version_of_call, name_causes, sources_cause, is_column, is_one_column, goes_over_rows, causes_of}
 use Rattle.job_language.proofs.PieceLemmas.{calls_append}
-use Rattle.job_language.proofs.CauseLemmas.{first_append, first_stays}
+use Rattle.job_language.proofs.CauseLemmas.{first_append, first_stays, length_parts}
 use Rattle.job_language.proofs.ShapeLemmas.{one_spelled, calls_job}
 use Rattle.std.specs.Prelude.{◌&&◌, ◌||◌, nat_eq, nat_lt}
 use Rattle.std.proofs.lemmas.Grind.{common_steps}
@@ -95,18 +95,28 @@ pub version_is : (s : Scope) (ws : List Word) (cs : List written.WrittenCall) (j
     → when (has_later_call s.version (calls_in ws cs)) Syntax ≡ version_cause s j
 version_is s ws cs j a h = ap (λ v. when (has_later_call s.version v) Syntax) (calls_of_job ws cs j a h)
 
--- the calls from a place on
-pub later_here : (ws : List Word) (version : ℕ) (cs : List written.WrittenCall) (i : ℕ) (c : written.WrittenCall) → i < length cs → c ≡ get_or cs i c
-    → nat_lt version (version_of_operation c.operation) ≡ true → has_later_call version (calls_in ws (drop i cs)) ≡ true
-later_here ws version cs i c lt is later =
+less : (a b : ℕ) → a < b → nat_lt a b ≡ true
+less a b h = grind (arith, common_steps)
+
+not_less : (a b : ℕ) → b ≤ a → nat_lt a b ≡ false
+not_less a b h = grind (arith, common_steps)
+
+-- the calls from a place on, if one is there, of a later version or not
+from_here : (ws : List Word) (version : ℕ) (cs : List written.WrittenCall) (i : ℕ) (c : written.WrittenCall) → i < length cs → c ≡ get_or cs i c
+    → has_later_call version (calls_in ws (drop i cs)) ≡ nat_lt version (version_of_call c.operation (length c.ends.items)) || has_later_call version (calls_in ws (drop (i + 1) cs))
+from_here ws version cs i c lt is =
     ap (λ v. has_later_call version (calls_in ws v)) (drop_more cs i c lt ∙ ap (λ d. d ∷ drop (i + 1) cs) (sym is))
-    ∙ ap (λ b. b || has_later_call version (calls_in ws (drop (i + 1) cs))) later
+    ∙ ap (λ n. nat_lt version (version_of_call c.operation n) || has_later_call version (calls_in ws (drop (i + 1) cs))) (length_parts (drop (c.opened + 1) ws) 0 c.ends.items)
+
+pub later_here : (ws : List Word) (version : ℕ) (cs : List written.WrittenCall) (i : ℕ) (c : written.WrittenCall) → i < length cs → c ≡ get_or cs i c
+    → version < version_of_call c.operation (length c.ends.items) → has_later_call version (calls_in ws (drop i cs)) ≡ true
+later_here ws version cs i c lt is later =
+    from_here ws version cs i c lt is ∙ ap (λ b. b || has_later_call version (calls_in ws (drop (i + 1) cs))) (less version _ later)
 
 pub later_more : (ws : List Word) (version : ℕ) (cs : List written.WrittenCall) (i : ℕ) (c : written.WrittenCall) → i < length cs → c ≡ get_or cs i c
-    → nat_lt version (version_of_operation c.operation) ≡ false → has_later_call version (calls_in ws (drop i cs)) ≡ has_later_call version (calls_in ws (drop (i + 1) cs))
+    → version_of_call c.operation (length c.ends.items) ≤ version → has_later_call version (calls_in ws (drop i cs)) ≡ has_later_call version (calls_in ws (drop (i + 1) cs))
 later_more ws version cs i c lt is early =
-    ap (λ v. has_later_call version (calls_in ws v)) (drop_more cs i c lt ∙ ap (λ d. d ∷ drop (i + 1) cs) (sym is))
-    ∙ ap (λ b. b || has_later_call version (calls_in ws (drop (i + 1) cs))) early
+    from_here ws version cs i c lt is ∙ ap (λ b. b || has_later_call version (calls_in ws (drop (i + 1) cs))) (not_less version _ early)
 
 pub none_later : (ws : List Word) (version : ℕ) (cs : List written.WrittenCall) (i : ℕ) → length cs ≤ i → has_later_call version (calls_in ws (drop i cs)) ≡ false
 none_later ws version cs i far = ap (λ v. has_later_call version (calls_in ws v)) (drop_all i cs far)

@@ -1,5 +1,5 @@
 -- The last part of a call, by the ends of its parts.
-use Rattle.std.proofs.Common.{◌≡◌, ℕ, suc, ◌+◌, ◌-◌, ◌<◌, List, [], ◌∷◌, length, drop, get_or, refl, sym, ap, ◌∙◌, arith}
+use Rattle.std.proofs.Common.{◌≡◌, ℕ, suc, ◌+◌, ◌-◌, ◌<◌, List, [], ◌∷◌, length, drop, get_or, None, refl, sym, ap, ◌∙◌, arith}
 use Rattle.lambda_expr.specs.Words.{Word}
 use Rattle.job_language.specs.declared.operation.Operation.{Operation}
 use Rattle.job_language.specs.declared.operation.Param.TheVariants.{Number}
@@ -8,9 +8,27 @@ use Rattle.job_language.specs.Splitting.{pieces, AreEnds}
 use Rattle.stream_tokens.specs.CutTexts.{TokenizedText, between}
 use Rattle.job_language.specs.declared.piece.WrittenCall as written
 use Rattle.job_language.specs.Shapes.{start_before, call_in, placed_in, StandsIn}
-use Rattle.job_language.specs.Arguments.{last_param, last_part, before_last, no_token, argument_text}
+use Rattle.job_language.specs.Arguments.{key_in, last_param, last_part, before_last, no_token, argument_text}
 use Rattle.job_language.proofs.PieceReads.{length_slice}
 use Rattle.job_language.proofs.CauseLemmas.{length_parts}
+
+-- a call of one part, of two, and of any other number
+pub one_part : (xs : List (List Word)) → length xs ≡ 1 → xs ≡ get_or xs 0 [] ∷ []
+one_part [] h = absurd (omega arith)
+one_part (a ∷ []) h = refl
+one_part (a ∷ b ∷ xs) h = absurd (omega arith)
+
+pub two_parts : (xs : List (List Word)) → length xs ≡ 2 → xs ≡ get_or xs 0 [] ∷ get_or xs 1 [] ∷ []
+two_parts [] h = absurd (omega arith)
+two_parts (a ∷ []) h = absurd (omega arith)
+two_parts (a ∷ b ∷ []) h = refl
+two_parts (a ∷ b ∷ c ∷ xs) h = absurd (omega arith)
+
+pub no_key : (xs : List (List Word)) → (length xs ≡ 1 → ⊥) → (length xs ≡ 2 → ⊥) → key_in xs ≡ None
+no_key [] h k = refl
+no_key (a ∷ []) h k = absurd (h refl)
+no_key (a ∷ b ∷ []) h k = absurd (k refl)
+no_key (a ∷ b ∷ c ∷ xs) h k = refl
 
 pub none_last : (o : Operation) (ws : List Word) (es : List ℕ) → length es ≡ 0 → last_param o (pieces ws 0 es) ≡ Number
 none_last o ws [] h = refl

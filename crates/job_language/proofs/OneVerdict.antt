@@ -49,15 +49,15 @@ one_operator : (b : Bool) (o : Option (Option Op)) (s : Scope) (text : List ℕ)
 one_operator false None s text r q h k = one_lambda s text want.Pair r q h k
 one_operator x o s text r q h k = sym h ∙ k
 
-one_by : (p : Param) (s : Scope) (ws : List Word) (text : List ℕ) (r q : Result Argument Cause) → IsReadBy p s ws text r → IsReadBy p s ws text q → r ≡ q
-one_by param.Long s ws text r q h k = one_lambda s text want.Long r q h k
-one_by param.Bool s ws text r q h k = one_lambda s text want.Bool r q h k
-one_by param.Stream s ws text r q h k = one_lambda s text want.Stream r q h k
-one_by param.Operator s ws text r q h k = one_operator (is_add_exact ws) (spelled_op ws) s text r q h k
-one_by x s ws text r q h k = sym h ∙ k
+one_by : (p : Param) (s : Scope) (xs : List (List Word)) (text : List ℕ) (r q : Result Argument Cause) → IsReadBy p s xs text r → IsReadBy p s xs text q → r ≡ q
+one_by param.Long s xs text r q h k = one_lambda s text want.Long r q h k
+one_by param.Bool s xs text r q h k = one_lambda s text want.Bool r q h k
+one_by param.Stream s xs text r q h k = one_lambda s text want.Stream r q h k
+one_by param.Operator s xs text r q h k = one_operator (is_add_exact (last_part xs)) (spelled_op (last_part xs)) s text r q h k
+one_by x s xs text r q h k = sym h ∙ k
 
 one_argument : (s : Scope) (t : TokenizedText) (c : PlacedCall) (r q : Result Argument Cause) → IsArgumentRead s t c r → IsArgumentRead s t c q → r ≡ q
-one_argument s t c r q h k = one_by (last_param c.call.operation c.call.parts) s (last_part c.call.parts) (argument_text t c).bytes r q h k
+one_argument s t c r q h k = one_by (last_param c.call.operation c.call.parts) s c.call.parts (argument_text t c).bytes r q h k
 
 one_after : (o : Option Cause) (s : Scope) (t : TokenizedText) (c : PlacedCall) (r q : Result AbstractCall Cause) → IsReadAfter o s t c r → IsReadAfter o s t c q → r ≡ q
 one_after (Some e) s t c r q h k = sym h ∙ k

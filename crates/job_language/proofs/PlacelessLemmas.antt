@@ -31,11 +31,11 @@ use Rattle.job_language.specs.declared.operation.Param.TheVariants as param
 use Rattle.job_language.specs.declared.terminal.Gives.{Gives}
 use Rattle.job_language.specs.declared.terminal.Gives.TheVariants as gives
 use Rattle.job_language.specs.Rows.{Argument, nothing, column, job, number, test, stream, operator, exact, AbstractCall, source, stage, terminal, fallback, Takes, of_nothing, of_bounds, of_values, of_number, of_count, of_column, of_job, of_long, of_test, of_stream, of_positions, of_identity, Row, as_source, as_concat, as_stage, as_terminal, as_fallback, taken, from_identity, made, built_by}
-use Rattle.job_language.specs.Table.{row, name_in, role_of, string_in}
+use Rattle.job_language.specs.Table.{row, name_in, role_of}
 use Rattle.job_language.specs.Jobs.{AbstractJob, AbstractJobStage, AbstractTerminal, given_by}
 use Rattle.job_language.specs.Causes.{Scope, first_cause, given, goes_over_rows, early_causes, numbers_of, stage_cause}
 use Rattle.job_language.specs.Operators.{is_add_exact, spelled_op}
-use Rattle.job_language.specs.Arguments.{PlacedCall, IsLambdaRead, IsOperatorRead, IsReadBy, after_names, argument_of, column_answer, last_param, last_part, listed, named_causes, name_answer, pair_argument, reads_cells, result_answer, text_answer, argument_text}
+use Rattle.job_language.specs.Arguments.{PlacedCall, IsLambdaRead, IsOperatorRead, IsReadBy, after_names, argument_of, column_answer, key_answer, key_in, last_param, last_part, listed, named_causes, name_answer, pair_argument, reads_cells, result_answer, argument_text}
 use Rattle.job_language.specs.Verdicts.{AreRead, BegunJob, IsCallRead, IsJobRead, IsNextCall, IsRead, IsReadAfter, IsReadInTurn, added, below_terminal, call_answer, fallback_below, fallback_for, finished_by, job_named, placed_calls, scope_over, table_of}
 use Rattle.job_language.specs.Verdicts as verdict
 use Rattle.job_language.specs.Files.{AreJobsLeft, AreJobsRead, IsNext, scope_below}
@@ -88,9 +88,9 @@ of_column_answer : (o : Option (List ℤ)) (a : Argument) → column_answer o �
 of_column_answer None a is = absurd cc
 of_column_answer (Some cells) a is = same_ok (column cells) a is refl
 
-text_plain : (s : Scope) (o : Option (List ℕ)) (a : Argument) → text_answer s o ≡ Ok a → IsPlain a
-text_plain s None a is = same_ok nothing a is refl
-text_plain s (Some w) a is = of_column_answer _ a is
+key_plain : (s : Scope) (o : Option (List ℕ)) (a : Argument) → key_answer s o ≡ Ok a → IsPlain a
+key_plain s None a is = same_ok nothing a is refl
+key_plain s (Some w) a is = of_column_answer _ a is
 
 of_result : (w : List ℕ) (g : Option Gives) (a : Argument) → result_answer w g ≡ Ok a → IsPlain a
 of_result w (Some gives.Array) a is = same_ok (job w) a is refl
@@ -100,14 +100,15 @@ name_plain : (s : Scope) (o : Option (List ℕ)) (a : Argument) → name_answer 
 name_plain s None a is = same_ok nothing a is refl
 name_plain s (Some w) a is = of_result w (given s.jobs w) a is
 
-part_plain : (p : Param) (s : Scope) (ws : List Word) (text : List ℕ) (a : Argument) → reads_cells s ≡ false → IsReadBy p s ws text (Ok a) → IsPlain a
-part_plain param.Number s ws text a early h = same_ok nothing a h refl
-part_plain param.Text s ws text a early h = text_plain s (string_in ws) a h
-part_plain param.Name s ws text a early h = name_plain s (name_in ws) a h
-part_plain param.Long s ws text a early h = lambda_plain s text want.Long a early h
-part_plain param.Bool s ws text a early h = lambda_plain s text want.Bool a early h
-part_plain param.Stream s ws text a early h = lambda_plain s text want.Stream a early h
-part_plain param.Operator s ws text a early h = operator_plain (is_add_exact ws) (spelled_op ws) s text a early h
+part_plain : (p : Param) (s : Scope) (xs : List (List Word)) (text : List ℕ) (a : Argument) → reads_cells s ≡ false → IsReadBy p s xs text (Ok a) → IsPlain a
+part_plain param.Number s xs text a early h = same_ok nothing a h refl
+part_plain param.Text s xs text a early h = key_plain s (key_in xs) a h
+part_plain param.Places s xs text a early h = key_plain s (key_in xs) a h
+part_plain param.Name s xs text a early h = name_plain s (name_in (last_part xs)) a h
+part_plain param.Long s xs text a early h = lambda_plain s text want.Long a early h
+part_plain param.Bool s xs text a early h = lambda_plain s text want.Bool a early h
+part_plain param.Stream s xs text a early h = lambda_plain s text want.Stream a early h
+part_plain param.Operator s xs text a early h = operator_plain (is_add_exact (last_part xs)) (spelled_op (last_part xs)) s text a early h
 
 -- ---- calls
 
@@ -221,7 +222,7 @@ after_plain None s t c g early (Err e, arg, is) = absurd cc
 after_plain None s t c g early (Ok a, arg, is) =
     let o = c.call.operation in
     row_plain (row o) a (numbers_of o (length c.call.parts) 0 c.call.parts) g (row_keeps o)
-    (part_plain (last_param o c.call.parts) s (last_part c.call.parts) (argument_text t c).bytes a early arg) is
+    (part_plain (last_param o c.call.parts) s c.call.parts (argument_text t c).bytes a early arg) is
 
 turn_plain : (f : Option Cause) (s : Scope) (t : TokenizedText) (c : PlacedCall) (g : AbstractCall) → reads_cells s ≡ false → IsReadInTurn f s t c (Ok g) → IsPlainCall g
 turn_plain (Some e) s t c g early h = absurd cc

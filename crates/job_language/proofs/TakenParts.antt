@@ -39,11 +39,11 @@ use Rattle.job_language.specs.declared.terminal.Gives.{Gives}
 use Rattle.job_language.specs.declared.terminal.Gives.TheVariants as gives
 use Rattle.lambda_expr.specs.NumberWords.{number_read}
 use Rattle.job_language.specs.Rows.{Argument, nothing, column, job, number, test, stream, operator, exact, source, stage, terminal, fallback, Takes, of_nothing, of_bounds, of_values, of_number, of_count, of_column, of_job, of_long, of_test, of_stream, of_positions, of_identity, Row, as_source, as_concat, as_stage, as_terminal, as_fallback, params_taken, params_in, taken, from_identity, made, built_by}
-use Rattle.job_language.specs.Table.{row, params_of, allowed, param_at, param_of, fits, name_in, string_in}
+use Rattle.job_language.specs.Table.{row, params_of, allowed, param_at, param_of, fits, name_in, places_in, string_in}
 use Rattle.job_language.specs.Calls.{Call, FitFrom, IsCall}
 use Rattle.job_language.specs.Causes.{Scope, first_cause, when, count_of, number_cause, number_causes, number_in, as_list, numbers_of, is_negative, values_cause, early_causes}
 use Rattle.job_language.specs.Operators.{is_add_exact, spelled_op}
-use Rattle.job_language.specs.Arguments.{PlacedCall, last_part, last_param, text_answer, column_answer, name_answer, result_answer, listed, pair_argument, argument_of, after_names, cell_cause, cell_causes, reference_cause, reference_causes, named_causes, lambda_answer, reads_cells, IsLambdaRead, IsOperatorRead, IsReadBy, IsArgumentRead, argument_text}
+use Rattle.job_language.specs.Arguments.{PlacedCall, last_part, last_param, key_answer, key_in, keyed, column_answer, name_answer, result_answer, listed, pair_argument, argument_of, after_names, cell_cause, cell_causes, reference_cause, reference_causes, named_causes, lambda_answer, reads_cells, IsLambdaRead, IsOperatorRead, IsReadBy, IsArgumentRead, argument_text}
 use Rattle.job_language.specs.Verdicts.{IsReadAfter, IsCallRead}
 
 -- ---- causes that are no syntax fault
@@ -133,9 +133,9 @@ no_column : (o : Option (List ℤ)) → column_answer o ≡ Err cause.Syntax →
 no_column None e = absurd cc
 no_column (Some cells) e = absurd cc
 
-no_text : (s : Scope) (w : Option (List ℕ)) → text_answer s w ≡ Err cause.Syntax → ⊥
-no_text s None e = absurd cc
-no_text s (Some w) e = no_column _ e
+no_key : (s : Scope) (w : Option (List ℕ)) → key_answer s w ≡ Err cause.Syntax → ⊥
+no_key s None e = absurd cc
+no_key s (Some w) e = no_column _ e
 
 no_result : (w : List ℕ) (g : Option Gives) → result_answer w g ≡ Err cause.Syntax → ⊥
 no_result w None e = absurd cc
@@ -146,12 +146,13 @@ no_name : (s : Scope) (w : Option (List ℕ)) → name_answer s w ≡ Err cause.
 no_name s None e = absurd cc
 no_name s (Some w) e = no_result w _ e
 
-no_part : (p : Param) (s : Scope) (ws : List Word) (text : List ℕ) → IsReadBy p s ws text (Err cause.Syntax) → ⊥
-no_part param.Number s ws text e = absurd cc
-no_part param.Text s ws text e = no_text s (string_in ws) e
-no_part param.Name s ws text e = no_name s (name_in ws) e
-no_part param.Operator s ws text e = no_operator _ _ s text e
-no_part x s ws text (o, out, e) = no_lambda s o e
+no_part : (p : Param) (s : Scope) (xs : List (List Word)) (text : List ℕ) → IsReadBy p s xs text (Err cause.Syntax) → ⊥
+no_part param.Number s xs text e = absurd cc
+no_part param.Text s xs text e = no_key s (key_in xs) e
+no_part param.Places s xs text e = no_key s (key_in xs) e
+no_part param.Name s xs text e = no_name s (name_in (last_part xs)) e
+no_part param.Operator s xs text e = no_operator _ _ s text e
+no_part x s xs text (o, out, e) = no_lambda s o e
 
 -- ---- what a row takes
 
@@ -371,9 +372,10 @@ by_cells : (o : Option (List ℤ)) (a : Argument) → column_answer o ≡ Ok a �
 by_cells None a r = absurd cc
 by_cells (Some cells) a r = subst (λ v. Accepted params.Column v []) (ok_same (column cells) a r) tt
 
-column_is : (s : Scope) (o : Option (List ℕ)) (a : Argument) → is_some o ≡ true → text_answer s o ≡ Ok a → Accepted params.Column a []
-column_is s None a fit r = let e : false ≡ true = fit in absurd cc
-column_is s (Some w) a fit r = by_cells _ a r
+column_is : (s : Scope) (o : Option (List ℕ)) (p : Option ℕ) (a : Argument) → is_some o ≡ true → is_some p ≡ true → key_answer s (keyed o p) ≡ Ok a → Accepted params.Column a []
+column_is s None p a fit known r = let e : false ≡ true = fit in absurd cc
+column_is s o None a fit known r = let e : false ≡ true = known in absurd cc
+column_is s (Some w) (Some p) a fit known r = by_cells _ a r
 
 by_given : (w : List ℕ) (g : Option Gives) (a : Argument) → result_answer w g ≡ Ok a → Accepted params.Job a []
 by_given w (Some gives.Array) a r = subst (λ v. Accepted params.Job v []) (ok_same (job w) a r) tt
@@ -428,7 +430,7 @@ same_two : (j k : Option ℤ) → as_list j ++ as_list k ≡ as_list j ++ (as_li
 same_two j k = ap (λ v. as_list j ++ v) (sym (append-nil (as_list k)))
 
 -- what the parts of a call are read as, its row takes
-accepted : (p : Params) (xs : List (List Word)) (s : Scope) (text : List ℕ) (a : Argument) → allowed p (length xs) ≡ true → FitAt p (length xs) 0 xs → AreRead p (length xs) 0 xs → IsReadBy (last_at p xs) s (last_part xs) text (Ok a) → Accepted p a (numbers_at p (length xs) 0 xs)
+accepted : (p : Params) (xs : List (List Word)) (s : Scope) (text : List ℕ) (a : Argument) → allowed p (length xs) ≡ true → FitAt p (length xs) 0 xs → AreRead p (length xs) 0 xs → IsReadBy (last_at p xs) s xs text (Ok a) → Accepted p a (numbers_at p (length xs) 0 xs)
 accepted params.Nothing [] s text a al fit read r = no_number_read params.Nothing [] a tt r
 accepted params.Nothing (x ∷ xs) s text a al fit read r = let e = eqb-true (length (x ∷ xs)) 0 al in absurd (omega arith)
 accepted params.Bounds (x ∷ y ∷ []) s text a al fit read r = no_number_read params.Bounds (as_list (number_read x) ++ (as_list (number_read y) ++ [])) a (subst (Accepted params.Bounds nothing) (same_two (number_read x) (number_read y)) (bounds_are (number_read x) (number_read y) read.0 read.1.0)) r
@@ -437,7 +439,9 @@ accepted params.Values [] s text a al fit read r = no_number_read params.Values 
 accepted params.Values (x ∷ xs) s text a al fit read r = no_number_read params.Values (numbers_at params.Values (length (x ∷ xs)) 0 (x ∷ xs)) a tt r
 accepted params.Number (x ∷ []) s text a al fit read r = no_number_read params.Number (as_list (number_read x) ++ []) a (subst (Accepted params.Number nothing) (sym (append-nil (as_list (number_read x)))) (number_is (number_read x) read.0).0) r
 accepted params.Count (x ∷ []) s text a al fit read r = no_number_read params.Count (as_list (number_read x) ++ []) a (subst (Accepted params.Count nothing) (sym (append-nil (as_list (number_read x)))) (number_is (number_read x) read.0).1) r
-accepted params.Column (x ∷ []) s text a al fit read r = column_is s (string_in x) a fit.0 r
+accepted params.Column (x ∷ []) s text a al fit read r = column_is s (string_in x) (Some 0) a fit.0 refl r
+accepted params.Column (x ∷ y ∷ []) s text a al fit read r = column_is s (string_in x) (places_in y) a fit.0 fit.1.0 r
+accepted params.Column (x ∷ y ∷ z ∷ xs) s text a al fit read r = absurd (far (length (x ∷ y ∷ z ∷ xs)) 1 2 al (omega arith) (omega arith))
 accepted params.Job (x ∷ []) s text a al fit read r = job_is s (name_in x) a fit.0 r
 accepted params.Long (x ∷ []) s text a al fit read r = long_is a (lambda_is s text want.Long a r)
 accepted params.Test (x ∷ []) s text a al fit read r = test_is a (lambda_is s text want.Bool a r)
@@ -457,11 +461,11 @@ by_cause : (f : Option Cause) (s : Scope) (t : TokenizedText) (c : PlacedCall) �
 by_cause (Some e) s t c call valued h r = let same : e ≡ cause.Syntax = cc in h (ap Some same)
 by_cause None s t c call valued h (Err e, arg, eq) =
     let same : e ≡ cause.Syntax = cc in
-    no_part (last_param c.call.operation c.call.parts) s (last_part c.call.parts) (argument_text t c).bytes (subst (λ v. IsArgumentRead s t c (Err v)) same arg)
+    no_part (last_param c.call.operation c.call.parts) s c.call.parts (argument_text t c).bytes (subst (λ v. IsArgumentRead s t c (Err v)) same arg)
 by_cause None s t c call valued h (Ok a, arg, eq) =
     let o = c.call.operation in
     let xs = c.call.parts in
-    let read = subst (λ p. IsReadBy p s (last_part xs) (argument_text t c).bytes (Ok a)) (last_are o xs) arg in
+    let read = subst (λ p. IsReadBy p s xs (argument_text t c).bytes (Ok a)) (last_are o xs) arg in
     let fine = accepted (params_of o) xs s (argument_text t c).bytes a call.allowed (fit_at o (length xs) 0 xs call.fit) (valued refl) read in
     builds (row o) a (numbers_of o (length xs) 0 xs) (subst (Accepted (params_of o) a) (sym (numbers_are o (length xs) 0 xs)) fine) eq
 

@@ -4,6 +4,7 @@ use Rattle.std.specs.Prelude.{None, Result, Ok, Err}
 use Rattle.stream_tokens.specs.declared.token.Token.{Token}
 use Rattle.stream_tokens.specs.declared.token.TokenKind.TheVariants.{Bad}
 use Rattle.stream_tokens.specs.CutTexts.{TokenizedText, between}
+use Rattle.job_names.specs.ColumnKeys.{key_of}
 use Rattle.lambda_expr.specs.Words.{Word}
 use Rattle.lambda_values.specs.Lambda.{AbstractLambda, long, boolean, stream as inner_stream, pair}
 use Rattle.lambda_expr.specs.Refusals.{Judged, IsRefusedWithin}
@@ -26,7 +27,7 @@ use Rattle.job_language.specs.declared.operation.Param.TheVariants as param
 use Rattle.job_language.specs.declared.terminal.Gives.{Gives}
 use Rattle.job_language.specs.declared.terminal.Gives.TheVariants as gives
 use Rattle.job_language.specs.Rows.{Argument, nothing, column, job, number, test, stream, operator, exact}
-use Rattle.job_language.specs.Table.{name_in, param_of, string_in}
+use Rattle.job_language.specs.Table.{name_in, param_of, places_in, string_in}
 use Rattle.job_language.specs.Calls.{Call}
 use Rattle.job_language.specs.Causes.{Scope, given, first_cause, inside_quotes}
 use Rattle.job_language.specs.Operators.{is_add_exact, spelled_op}
@@ -69,9 +70,20 @@ abbrev pub column_answer : Option (List ℤ) → Result Argument Cause
 column_answer None = Err cause.UnknownColumn
 column_answer (Some cells) = Ok (column cells)
 
-abbrev pub text_answer : Scope → Option (List ℕ) → Result Argument Cause
-text_answer scope (Some w) = column_answer (cells_named (inside_quotes w) scope.columns)
-text_answer scope None = Ok nothing
+-- helper: the key of a column by its name in quotes and its number of decimal places
+abbrev pub keyed : Option (List ℕ) → Option ℕ → Option (List ℕ)
+keyed (Some w) (Some p) = Some (key_of (inside_quotes w) p)
+keyed w p = None
+
+-- the key of the column that the parts of a call name: a string, and after it a number of decimal places or nothing
+abbrev pub key_in : List (List Word) → Option (List ℕ)
+key_in (a ∷ []) = keyed (string_in a) (Some 0)
+key_in (a ∷ b ∷ []) = keyed (string_in a) (places_in b)
+key_in xs = None
+
+abbrev pub key_answer : Scope → Option (List ℕ) → Result Argument Cause
+key_answer scope (Some key) = column_answer (cells_named key scope.columns)
+key_answer scope None = Ok nothing
 
 -- `result` names an earlier job that gives an array
 abbrev pub result_answer : List ℕ → Option Gives → Result Argument Cause
@@ -160,17 +172,19 @@ IsOperatorRead true o scope text r = Ok exact ≡ r
 IsOperatorRead false (Some f) scope text r = listed f ≡ r
 IsOperatorRead false None scope text r = IsLambdaRead scope text want.Pair r
 
--- what words and a text are read as, by what the row says of the part
-abbrev pub IsReadBy : Param → Scope → List Word → List ℕ → Result Argument Cause → Type 0
-IsReadBy param.Number scope ws text r = Ok nothing ≡ r
-IsReadBy param.Text scope ws text r = text_answer scope (string_in ws) ≡ r
-IsReadBy param.Name scope ws text r = name_answer scope (name_in ws) ≡ r
-IsReadBy param.Long scope ws text r = IsLambdaRead scope text want.Long r
-IsReadBy param.Bool scope ws text r = IsLambdaRead scope text want.Bool r
-IsReadBy param.Stream scope ws text r = IsLambdaRead scope text want.Stream r
-IsReadBy param.Operator scope ws text r = IsOperatorRead (is_add_exact ws) (spelled_op ws) scope text r
+-- what parts and the text of the last one are read as, by what the row says of that one: a column by all its parts
+abbrev pub IsReadBy : Param → Scope → List (List Word) → List ℕ → Result Argument Cause → Type 0
+IsReadBy param.Number scope xs text r = Ok nothing ≡ r
+IsReadBy param.Text scope xs text r = key_answer scope (key_in xs) ≡ r
+IsReadBy param.Places scope xs text r = key_answer scope (key_in xs) ≡ r
+IsReadBy param.Name scope xs text r = name_answer scope (name_in (last_part xs)) ≡ r
+IsReadBy param.Long scope xs text r = IsLambdaRead scope text want.Long r
+IsReadBy param.Bool scope xs text r = IsLambdaRead scope text want.Bool r
+IsReadBy param.Stream scope xs text r = IsLambdaRead scope text want.Stream r
+IsReadBy param.Operator scope xs text r =
+    IsOperatorRead (is_add_exact (last_part xs)) (spelled_op (last_part xs)) scope text r
 
--- what the last part of a call of a job is read as
+-- what the last part of a call of a job is read as, or a column by all its parts
 abbrev pub IsArgumentRead : Scope → TokenizedText → PlacedCall → Result Argument Cause → Type 0
 IsArgumentRead scope t c r =
-    IsReadBy (last_param c.call.operation c.call.parts) scope (last_part c.call.parts) (argument_text t c).bytes r
+    IsReadBy (last_param c.call.operation c.call.parts) scope c.call.parts (argument_text t c).bytes r

@@ -1,5 +1,5 @@
 -- Meaning: what a part of a job is refused for: the causes in order of writing, and the first that there is.
-use Rattle.std.specs.Prelude.{ℕ, suc, ℤ, pos, int_lt, Bool, true, false, ◌||◌, nat_eq, nat_lt, nat_le}
+use Rattle.std.specs.Prelude.{ℕ, suc, ℤ, pos, int_lt, Bool, true, false, ◌==◌, ◌&&◌, ◌||◌, nat_eq, nat_lt, nat_le}
 use Rattle.std.specs.Prelude.{if◌then◌else◌, List, [], ◌∷◌, ◌++◌, length, take, drop, ◌-◌, Option, Some, None}
 use Rattle.std.specs.Option.{is_none, is_some}
 use Rattle.std.specs.Cmp.Lexicographic.{pointwise}
@@ -48,10 +48,21 @@ abbrev pub when : Bool → Cause → Option Cause
 when true c = Some c
 when false c = None
 
+-- helper: a call of `column`
+abbrev pub is_column : Operation → Bool
+is_column operation.Column = true
+is_column o = false
+
+-- helper: the first version of the language that has a call of an operation with n parts: a column with decimal places
+-- has two
+abbrev pub version_of_call : Operation → ℕ → ℕ
+version_of_call o n = if is_column o && (n == 2) then 3 else version_of_operation o
+
 -- whether one of these calls is of a later version than this
 abbrev pub has_later_call : ℕ → List Call → Bool
 has_later_call version [] = false
-has_later_call version (c ∷ cs) = nat_lt version (version_of_operation c.operation) || has_later_call version cs
+has_later_call version (c ∷ cs) =
+    nat_lt version (version_of_call c.operation (length c.parts)) || has_later_call version cs
 
 -- each call of a job is of its version or an earlier one
 abbrev pub version_cause : Scope → Job → Option Cause
@@ -92,6 +103,7 @@ as_list (Some k) = k ∷ []
 abbrev pub number_in : Param → List Word → List ℤ
 number_in param.Number ws = as_list (number_read ws)
 number_in param.Text ws = []
+number_in param.Places ws = []
 number_in param.Name ws = []
 number_in param.Long ws = []
 number_in param.Bool ws = []
@@ -123,11 +135,6 @@ stage_cause n r = None
 -- at most 8 plain sources; each source inside `concat` counts
 abbrev pub sources_cause : Job → Option Cause
 sources_cause j = when (nat_lt 8 (length (plain_sources j.source))) cause.TooLong
-
--- helper: a call of `column`
-abbrev pub is_column : Operation → Bool
-is_column operation.Column = true
-is_column o = false
 
 -- helper: there is one call, of `column`
 abbrev pub is_one_column : List Call → Bool

@@ -4,7 +4,8 @@ use Rattle.std.specs.Prelude.{ℕ, ◌+◌, ℤ, Bool, true, false, ◌==◌, �
 use Rattle.std.specs.Prelude.{if◌then◌else◌, Option, Some, None, is_some, Result}
 use Rattle.std.specs.Cmp.Lexicographic.{pointwise}
 use Rattle.lambda_expr.specs.NumberWords.{is_number}
-use Rattle.lambda_expr.specs.Words.{Word, named, quoted}
+use Rattle.lambda_expr.specs.Words.{Word, named, numeral, quoted}
+use Rattle.job_names.specs.ColumnKeys.{places_of}
 use Rattle.trace.specs.Stages.{map, filter, flat_map}
 use Rattle.slice_ops.specs.Slices.{limit, skip, take_while, drop_while}
 use Rattle.find_ops.specs.Finds as find
@@ -153,7 +154,7 @@ allowed params.Bounds n = n == 2
 allowed params.Values n = true
 allowed params.Number n = n == 1
 allowed params.Count n = n == 1
-allowed params.Column n = n == 1
+allowed params.Column n = (n == 1) || (n == 2)
 allowed params.Job n = n == 1
 allowed params.Long n = n == 1
 allowed params.Test n = n == 1
@@ -172,7 +173,7 @@ param_at params.Bounds n i = param.Number
 param_at params.Values n i = param.Number
 param_at params.Number n i = param.Number
 param_at params.Count n i = param.Number
-param_at params.Column n i = param.Text
+param_at params.Column n i = if i == 0 then param.Text else param.Places
 param_at params.Job n i = param.Name
 param_at params.Long n i = param.Long
 param_at params.Test n i = param.Bool
@@ -193,6 +194,11 @@ abbrev pub name_in : List Word → Option (List ℕ)
 name_in (named w ∷ []) = Some w
 name_in ws = None
 
+-- helper: the number of decimal places that words are
+abbrev pub places_in : List Word → Option ℕ
+places_in (numeral w ∷ []) = places_of w
+places_in ws = None
+
 abbrev pub has_words : List Word → Bool
 has_words [] = false
 has_words (w ∷ ws) = true
@@ -201,6 +207,7 @@ has_words (w ∷ ws) = true
 abbrev pub fits : Param → List Word → Bool
 fits param.Number ws = is_number ws
 fits param.Text ws = is_some (string_in ws)
+fits param.Places ws = is_some (places_in ws)
 fits param.Name ws = is_some (name_in ws)
 fits param.Long ws = has_words ws
 fits param.Bool ws = has_words ws

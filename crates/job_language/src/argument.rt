@@ -1,13 +1,14 @@
 //! The last part of a call: a column, an earlier job, a lambda, an operator.
-ghost use Rattle.std.specs.Prelude.{◌≡◌, IfOk, Ok, option_map};
+ghost use Rattle.std.specs.Prelude.{◌≡◌, ◌<◌, IfOk, Ok, length, option_map};
 ghost use Rattle.tables.specs.Table.{cells_named};
 ghost use Rattle.lambda_values.specs.Lambda.{body_of};
 ghost use Rattle.lambda_expr.specs.CodeWords.{words_in};
-ghost use Rattle.job_language.specs.Shapes.{StandsIn, placed_in};
+ghost use Rattle.job_language.specs.Shapes.{StandsIn, call_in, placed_in};
 ghost use Rattle.job_language.specs.Scopes.{scope_of};
 ghost use Rattle.job_language.specs.Causes.{first_cause};
 ghost use Rattle.job_language.specs.Operators.{is_add_exact, spelled_op};
-ghost use Rattle.job_language.specs.Arguments.{text_answer, name_answer, argument_of, pair_argument};
+ghost use Rattle.job_language.specs.Arguments.{argument_text, column_answer, key_answer, key_in, keyed};
+ghost use Rattle.job_language.specs.Arguments.{name_answer, argument_of, pair_argument};
 ghost use Rattle.job_language.specs.Arguments.{cell_cause, cell_causes, reference_cause, reference_causes};
 ghost use Rattle.job_language.specs.Arguments.{lambda_answer};
 ghost use Rattle.job_language.specs.Arguments.{IsLambdaRead, IsOperatorRead, IsReadBy, IsArgumentRead};
@@ -22,7 +23,8 @@ use crate::params::param_of;
 use crate::piece::WrittenCall;
 use crate::scope::{Scope, given};
 use crate::terminal::Gives;
-use crate::word::{name_in, string_in};
+use crate::word::{name_in, places_in, string_in};
+use job_names::key_of;
 use lambda_expr::{Want, read_lambda_within};
 use lambda_values::{Body, BoolExpr, InnerExpr, Lambda, LongExpr, PairForm};
 use reduce_ops::Op;
@@ -46,17 +48,57 @@ pub enum Argument<'c> {
     ExactSum,
 }
 
-/// The column that a string names.
-fn read_string<'c>(scope: Scope<'_, 'c>, string: Option<&[u8]>) -> Result<Argument<'c>, Cause>
-    ensures { let w = option_map (λ w. w.now) string.entry in
-        Answers argument_in (λ r. text_answer (scope_of scope.entry) w ≡ r) result }
+/// The column with this key.
+fn column_answer<'c>(scope: Scope<'_, 'c>, key: &[u8]) -> Result<Argument<'c>, Cause>
+    ensures { Answers argument_in
+        (λ r. column_answer (cells_named key.now (scope_of scope.entry).columns) ≡ r) result }
+{
+    match scope.columns.get(key) {
+        Some(cells) => Ok(Argument::Column(cells)),
+        None => Err(Cause::UnknownColumn),
+    }
+}
+
+/// The column by its name in quotes and its number of decimal places.
+fn read_key<'c>(
+    alloc: Global,
+    scope: Scope<'_, 'c>,
+    string: Option<&[u8]>,
+    places: Option<u8>,
+) -> Result<Argument<'c>, Cause>
+    ensures { let key = keyed (option_map (λ w. w.now) string.entry) places in
+        Answers argument_in (λ r. key_answer (scope_of scope.entry) key ≡ r) result }
 {
     let Some(string) = string else {
         return Ok(Argument::Nothing);
     };
-    match scope.columns.get(inside_quotes(string)) {
-        Some(cells) => Ok(Argument::Column(cells)),
-        None => Err(Cause::UnknownColumn),
+    let Some(places) = places else {
+        return Ok(Argument::Nothing);
+    };
+    let key = key_of(alloc, inside_quotes(string), places)?;
+    column_answer(scope, key.as_slice())
+}
+
+/// The column that the parts of a call name.
+fn read_column<'c>(
+    alloc: Global,
+    scope: Scope<'_, 'c>,
+    text: &CutText,
+    call: &WrittenCall,
+) -> Result<Argument<'c>, Cause>
+    requires stands { StandsIn (words_in text.now) call.now }
+    requires parts { 0 < length call.now.ends.items }
+    ensures { let key = key_in (call_in (words_in text.now) call.now).parts in
+        Answers argument_in (λ r. key_answer (scope_of scope.entry) key ≡ r) result }
+{
+    let name = part_of(text, call, 0);
+    match call.ends.as_slice().len() {
+        1 => read_key(alloc, scope, string_in(&name), Some(0)),
+        2 => {
+            let places = places_in(&part_of(text, call, 1));
+            read_key(alloc, scope, string_in(&name), places)
+        }
+        _ => Ok(Argument::Nothing),
     }
 }
 
@@ -208,28 +250,32 @@ fn read_operator<'c>(
     }
 }
 
-/// A part, by what the row says of it.
+/// A call, by what the row says of its last part.
 fn read_by<'c>(
     alloc: Global,
     scope: Scope<'_, 'c>,
     param: Param,
     text: &CutText,
+    call: &WrittenCall,
 ) -> Result<Argument<'c>, Cause>
-    ensures { Answers argument_in
-        (IsReadBy param (scope_of scope.entry) (words_in text.now) text.now.bytes) result }
+    requires stands { StandsIn (words_in text.now) call.now }
+    requires parts { 0 < length call.now.ends.items }
+    ensures { let c = placed_in (words_in text.now) call.now in Answers argument_in
+        (IsReadBy param (scope_of scope.entry) c.call.parts (argument_text text.now c).bytes) result }
 {
+    let last = part_of(text, call, call.ends.as_slice().len() - 1);
     match param {
         Param::Number => Ok(Argument::Nothing),
-        Param::Text => read_string(scope, string_in(text)),
-        Param::Name => read_name(alloc, scope, name_in(text)),
-        Param::Long => read_lambda_part(alloc, scope, text, Want::Long),
-        Param::Bool => read_lambda_part(alloc, scope, text, Want::Bool),
-        Param::Stream => read_lambda_part(alloc, scope, text, Want::Stream),
-        Param::Operator => read_operator(alloc, scope, text),
+        Param::Text | Param::Places => read_column(alloc, scope, text, call),
+        Param::Name => read_name(alloc, scope, name_in(&last)),
+        Param::Long => read_lambda_part(alloc, scope, &last, Want::Long),
+        Param::Bool => read_lambda_part(alloc, scope, &last, Want::Bool),
+        Param::Stream => read_lambda_part(alloc, scope, &last, Want::Stream),
+        Param::Operator => read_operator(alloc, scope, &last),
     }
 }
 
-/// The last part of a call, by what the row says of it; a call without parts has none.
+/// The last part of a call, by what the row says of it, or a column by all its parts; a call without parts has none.
 pub fn read_argument<'c>(
     alloc: Global,
     scope: Scope<'_, 'c>,
@@ -245,5 +291,5 @@ pub fn read_argument<'c>(
         return Ok(Argument::Nothing);
     }
     let param = param_of(call.operation, count, count - 1);
-    read_by(alloc, scope, param, &part_of(text, call, count - 1))
+    read_by(alloc, scope, param, text, call)
 }

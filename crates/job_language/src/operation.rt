@@ -60,6 +60,8 @@ pub enum Param {
     Number,
     /// A string.
     Text,
+    /// A number of decimal places, from version 3 on.
+    Places,
     /// The name of a job.
     Name,
     /// A lambda from a number to a number.
@@ -83,7 +85,7 @@ pub enum Params {
     Number,
     /// A number that isn't negative.
     Count,
-    /// The name of a column.
+    /// The name of a column, and its decimal places or nothing.
     Column,
     /// The name of an earlier job.
     Job,

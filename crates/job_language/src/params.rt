@@ -1,6 +1,7 @@
 //! What the table of operations says of an operation: where it stands, how many arguments it takes, and what each is.
 
 ghost use Rattle.std.specs.Prelude.{◌≡◌, ◌<◌};
+ghost use Rattle.job_language.specs.Causes.{version_of_call};
 ghost use Rattle.job_language.specs.Table.{role_of, params_of, allows, param_of, version_of_operation};
 
 use crate::operation::{Operation, Param, Params, Role};
@@ -14,6 +15,16 @@ pub fn version_of_operation(operation: Operation) -> u8
         Operation::OnFault => 2,
         Operation::SumExact | Operation::Sorted | Operation::Distinct => 3,
         _ => 1,
+    }
+}
+
+/// The first version of the language that has a call of an operation with this number of parts.
+pub fn version_of_call(operation: Operation, count: usize) -> u8
+    ensures { result ≡ version_of_call operation count }
+{
+    match operation {
+        Operation::Column if count == 2 => 3,
+        _ => version_of_operation(operation),
     }
 }
 
@@ -41,13 +52,12 @@ pub fn allows(operation: Operation, count: usize) -> bool
         Params::Values => true,
         Params::Number
         | Params::Count
-        | Params::Column
         | Params::Job
         | Params::Long
         | Params::Test
         | Params::Stream => count == 1,
         Params::Positions => count == 1 || count == 3,
-        Params::Identity => count == 1 || count == 2,
+        Params::Column | Params::Identity => count == 1 || count == 2,
         Params::Sources => false,
     }
 }
@@ -64,7 +74,13 @@ pub fn param_of(operation: Operation, count: usize, place: usize) -> Param
         | Params::Number
         | Params::Count
         | Params::Sources => Param::Number,
-        Params::Column => Param::Text,
+        Params::Column => {
+            if place == 0 {
+                Param::Text
+            } else {
+                Param::Places
+            }
+        }
         Params::Job => Param::Name,
         Params::Long => Param::Long,
         Params::Test => Param::Bool,

@@ -17,7 +17,7 @@ use crate::causes::{name_cause, when};
 use crate::fault::Cause;
 use crate::job::Job;
 use crate::operation::{Operation, Role};
-use crate::params::{role_of, version_of_operation};
+use crate::params::{role_of, version_of_call};
 use crate::parts::read_parts;
 use crate::piece::WrittenCall;
 use crate::scope::Scope;
@@ -58,7 +58,7 @@ fn has_later_call(version: u8, calls: &[WrittenCall]) -> bool
     ensures { (ws : List meant) → result ≡ has_later_call version (calls_in ws calls.now) }
 {
     for call in calls {
-        if version < version_of_operation(call.operation) {
+        if version < version_of_call(call.operation, call.ends.as_slice().len()) {
             return true;
         }
     }

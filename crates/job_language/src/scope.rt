@@ -11,7 +11,7 @@ use tables::Columns;
 /// What a job is read with: the version of the language, the jobs above it in file order, and the columns.
 #[derive(Clone, Copy)]
 pub struct Scope<'s, 'c> {
-    /// The version of the language: 1, 2, or 3 if lambdas may have cells and rows.
+    /// The version of the language: 1, 2, or 3 if lambdas may have cells and rows, and columns decimal places.
     pub version: u8,
     /// Whether the items of the job are rows of the columns.
     pub rows: bool,

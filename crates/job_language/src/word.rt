@@ -5,10 +5,11 @@ ghost use Rattle.stream_tokens.specs.declared.token.Token.{Token as token};
 ghost use Rattle.stream_tokens.specs.CutTexts.{between};
 ghost use Rattle.lambda_expr.specs.Words.{bad};
 ghost use Rattle.lambda_expr.specs.CodeWords.{word_of, words_in};
-ghost use Rattle.job_language.specs.Table.{fits, has_words, name_in, string_in};
+ghost use Rattle.job_language.specs.Table.{fits, has_words, name_in, places_in, string_in};
 ghost use Rattle.job_language.specs.Calls.{bracket_of, nest};
 
 use crate::operation::Param;
+use job_names::places_of;
 use lambda_expr::{Word, is_number, word_at};
 use stream_tokens::{CutText, Symbol};
 
@@ -86,6 +87,7 @@ pub fn fits(param: Param, text: &CutText) -> bool
     match param {
         Param::Number => is_number(text),
         Param::Text => string_in(text).is_some(),
+        Param::Places => places_in(text).is_some(),
         Param::Name => name_in(text).is_some(),
         Param::Long | Param::Bool | Param::Stream | Param::Operator => has_words(text),
     }
@@ -106,6 +108,26 @@ pub fn string_in<'a>(text: &CutText<'a>) -> Option<&'a [u8]>
 {
     match text.len() {
         1 => string_of(word_at(text, 0)),
+        _ => None,
+    }
+}
+
+/// The number of decimal places that a word is.
+fn places_word(word: Word) -> Option<u8>
+    ensures { result ≡ places_in (word_of word.entry ∷ []) }
+{
+    match word {
+        Word::Number(digits) => places_of(digits),
+        _ => None,
+    }
+}
+
+/// The number of decimal places that words are.
+pub fn places_in(text: &CutText) -> Option<u8>
+    ensures { result ≡ places_in (words_in text.now) }
+{
+    match text.len() {
+        1 => places_word(word_at(text, 0)),
         _ => None,
     }
 }

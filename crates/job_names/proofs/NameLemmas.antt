@@ -1,7 +1,8 @@
 -- The names in a text, byte by byte.
 use Rattle.std.proofs.Common.{◌≡◌, ◌<◌, ◌≤◌, ◌+◌, ◌-◌, ◌++◌, ◌∷◌, ◌∙◌, ◌==◌, [], ℕ, List, true, false, Option, Some, None, IfSome, refl, ap, arith, length, take, drop, get_or}
-use Rattle.std.proofs.lemmas.List.{drop_more, get_or-drop, length-drop, take_more}
-use Rattle.job_names.specs.JobNames.{names_after}
+use Rattle.std.proofs.lemmas.List.{drop_more, get_or-drop, length-drop, take_all, take_more}
+use Rattle.job_names.specs.ColumnKeys.{key_of}
+use Rattle.job_names.specs.JobNames.{names_after, places_after}
 
 -- a byte more from a place on
 byte_more : (text : List ℕ) (from at : ℕ) → from ≤ at → at < length text → take (at + 1 - from) (drop from text) ≡ take (at - from) (drop from text) ++ get_or text at 0 ∷ []
@@ -28,8 +29,12 @@ after_first text at h quote =
     rw (drop_more text at 0 h, quote, none) refl
 
 pub after_second : (text : List ℕ) (from at : ℕ) → at < length text → (get_or text at 0 == 34) ≡ true
-    → names_after (begun_in (Some from) text at) (drop at text) ≡ take (at - from) (drop from text) ∷ names_after None (drop (at + 1) text)
+    → names_after (begun_in (Some from) text at) (drop at text) ≡ key_of (take (at - from) (drop from text)) (places_after (drop (at + 1) text)) ∷ names_after None (drop (at + 1) text)
 after_second text from at h quote = rw (drop_more text at 0 h, quote) refl
+
+-- the text after a place
+pub rest_of : (text : List ℕ) (at : ℕ) → take (length text - at) (drop at text) ≡ drop at text
+rest_of text at = take_all (length text - at) (drop at text) (omega (arith, length-drop at text))
 
 -- the place where a piece was begun is before the next place
 pub later : (begun : Option ℕ) (at : ℕ) → IfSome begun (λ from. from ≤ at) → IfSome begun (λ from. from ≤ at + 1)

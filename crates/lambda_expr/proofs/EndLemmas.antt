@@ -7,6 +7,7 @@ use Rattle.lambda_expr.specs.declared.lexeme.Lexeme.TheVariants as word
 use Rattle.lambda_expr.specs.declared.sign.Sign.TheVariants as sign
 use Rattle.lambda_expr.specs.declared.source.StreamSource.{StreamSource}
 use Rattle.lambda_expr.specs.declared.step.ParseStep.{ParseStep}
+use Rattle.lambda_expr.specs.declared.lexeme.Numeral.TheVariants.{Places}
 use Rattle.lambda_expr.specs.Grammar.{Shape, number, Expression, IsExpression, postfix}
 use Rattle.lambda_expr.specs.SourceReading.{ArePosted, IsFront, IsNext, Next, TakesMore, each_postfix, steps_of}
 use Rattle.lambda_expr.specs.Sources.{Takes, further}
@@ -102,4 +103,4 @@ pub past_end : (s : StreamSource) (ws : List Lexeme) (at : ℕ) (front : List Sh
 past_end s ws at front le p =
     let none : drop at ws ≡ [] = drop_all at ws le in
     let same : at + 0 ≡ length ws = omega (arith, p.within) in
-    subst (StopsAt (Next s 0) ws) same (p.stops 0 (subst (λ v. StopsAt (Next s (length front)) v 0) (sym none) (stops_open s (length front) [] p.more (word.Number 0 ∷ [], (number 0, record { binds = tt; spelled = refl })))))
+    subst (StopsAt (Next s 0) ws) same (p.stops 0 (subst (λ v. StopsAt (Next s (length front)) v 0) (sym none) (stops_open s (length front) [] p.more (word.Number (Places 0) ∷ [], (number (Places 0), record { binds = tt; spelled = refl })))))

@@ -4,7 +4,7 @@ use Rattle.std.proofs.lemmas.List.{take_all}
 use Rattle.lambda_expr.specs.declared.lexeme.Lexeme.{Lexeme}
 use Rattle.lambda_expr.specs.Grammar.{Shape, Expression}
 use Rattle.lambda_expr.specs.Stops.{StopsAt}
-use Rattle.lambda_expr.specs.Reader.{State, wants, has, owns, dots, calls, at_cell, opens_cell, names_cell, at_row, opens_row, stuck, reads, result_of}
+use Rattle.lambda_expr.specs.Reader.{State, wants, has, owns, dots, calls, at_cell, opens_cell, names_cell, parts_cell, places_cell, at_row, opens_row, stuck, reads, result_of}
 use Rattle.lambda_expr.proofs.ReaderStateLemmas.{stops_at, stops_end, reads_expression}
 
 -- a state is stuck or not
@@ -17,6 +17,8 @@ is_stuck (calls fs o n) = inr (λ e. cc)
 is_stuck (at_cell fs) = inr (λ e. cc)
 is_stuck (opens_cell fs) = inr (λ e. cc)
 is_stuck (names_cell fs i) = inr (λ e. cc)
+is_stuck (parts_cell fs i) = inr (λ e. cc)
+is_stuck (places_cell fs i p) = inr (λ e. cc)
 is_stuck (at_row fs) = inr (λ e. cc)
 is_stuck (opens_row fs) = inr (λ e. cc)
 is_stuck stuck = inl refl

@@ -8,6 +8,7 @@ use Rattle.lambda_expr.specs.declared.step.Opening.{Opening}
 use Rattle.lambda_expr.specs.declared.step.Opening.TheVariants.{Paren, Call}
 use Rattle.lambda_expr.specs.declared.lexeme.Lexeme.{Lexeme}
 use Rattle.lambda_expr.specs.declared.lexeme.Lexeme.TheVariants as word
+use Rattle.lambda_expr.specs.declared.lexeme.Numeral.TheVariants.{Places}
 use Rattle.lambda_expr.specs.Grammar.{Shape, number, prefix, binary, ternary, enclosed, opening, inside, spells, Binds}
 use Rattle.lambda_expr.specs.Signs.{level, is_infix, is_prefix}
 use Rattle.lambda_expr.specs.Reader.{Frame, opened, signed, left, question, colon, Top, joined, in_call, takes}
@@ -40,7 +41,7 @@ Ordered (colon c p ∷ fs) = (wanted fs ≤ 1) × Binds 2 c × Binds 1 p × Orde
 abbrev pub after : List Frame → List Lexeme
 after [] = []
 after (opened o ∷ fs) = word.Close ∷ after fs
-after (question c ∷ fs) = word.Colon ∷ word.Number 0 ∷ after fs
+after (question c ∷ fs) = word.Colon ∷ word.Number (Places 0) ∷ after fs
 after (w ∷ fs) = after fs
 
 abbrev pub filled : List Frame → Shape → Shape
@@ -48,7 +49,7 @@ filled [] e = e
 filled (opened o ∷ fs) e = filled fs (enclosed o e)
 filled (signed s ∷ fs) e = filled fs (prefix s e)
 filled (left a s ∷ fs) e = filled fs (binary s a e)
-filled (question c ∷ fs) e = filled fs (ternary c e (number 0))
+filled (question c ∷ fs) e = filled fs (ternary c e (number (Places 0)))
 filled (colon c p ∷ fs) e = filled fs (ternary c p e)
 
 pub spells_filled : (fs : List Frame) (e : Shape) → spells (filled fs e) ≡ before fs ++ (spells e ++ after fs)
@@ -56,7 +57,7 @@ spells_filled [] e = sym (append-nil (spells e))
 spells_filled (opened o ∷ fs) e = spells_filled fs (enclosed o e) ∙ simp append_assoc
 spells_filled (signed s ∷ fs) e = spells_filled fs (prefix s e) ∙ simp append_assoc
 spells_filled (left a s ∷ fs) e = spells_filled fs (binary s a e) ∙ simp append_assoc
-spells_filled (question c ∷ fs) e = spells_filled fs (ternary c e (number 0)) ∙ simp append_assoc
+spells_filled (question c ∷ fs) e = spells_filled fs (ternary c e (number (Places 0))) ∙ simp append_assoc
 spells_filled (colon c p ∷ fs) e = spells_filled fs (ternary c p e) ∙ simp append_assoc
 
 pub level_high : (s : Sign) → level s ≤ 11
@@ -83,7 +84,7 @@ binds_filled [] e h b = b
 binds_filled (opened o ∷ fs) e h b = binds_filled fs (enclosed o e) h b
 binds_filled (signed s ∷ fs) e h b = binds_filled fs (prefix s e) h.1 (wanted_high fs, h.0, b)
 binds_filled (left a s ∷ fs) e h b = binds_filled fs (binary s a e) h.3 (h.0, h.1, h.2, b)
-binds_filled (question c ∷ fs) e h b = binds_filled fs (ternary c e (number 0)) h.2 (h.0, h.1, b, tt)
+binds_filled (question c ∷ fs) e h b = binds_filled fs (ternary c e (number (Places 0))) h.2 (h.0, h.1, b, tt)
 binds_filled (colon c p ∷ fs) e h b = binds_filled fs (ternary c p e) h.3 (h.0, h.1, h.2, b)
 
 below_test : (a b : ℕ) → a < b → nat_lt a b ≡ true

@@ -12,7 +12,7 @@ use Rattle.lambda_expr.specs.declared.lexeme.ClassName.{ClassName as Class}
 use Rattle.lambda_expr.specs.declared.lexeme.Lexeme.{Lexeme}
 use Rattle.lambda_expr.specs.declared.lexeme.Lexeme.TheVariants as word
 use Rattle.lambda_expr.specs.declared.lexeme.Name.{Name}
-use Rattle.lambda_expr.specs.Grammar.{Shape, number, enclosed, postfix}
+use Rattle.lambda_expr.specs.Grammar.{Shape, row, enclosed, postfix}
 use Rattle.lambda_expr.specs.Signs.{level}
 use Rattle.lambda_expr.specs.Reader.{Frame, Top, State, has, joins, joined, shuts, called, alone}
 use Rattle.lambda_expr.specs.Codes.{reduced, shape_on, rest, apply, run, frames_of, coded, code_of, state_on, state_of, top_of, IsAt, IsCoded}
@@ -75,7 +75,7 @@ joining_on goal n p ps qs ss new x is front more j =
 
 abbrev top_in : State → Top
 top_in (has fs e) = record { frames = fs; shape = e }
-top_in s = record { frames = []; shape = number 0 }
+top_in s = record { frames = []; shape = row }
 
 pub top_is : (ps : List Pending) (ss : List ParseStep) (fs : List Frame) (e : Shape) → IsAt ps ss Complete (has fs e) → top_of ps ss ≡ record { frames = fs; shape = e }
 top_is ps ss fs e a = ap top_in a.state

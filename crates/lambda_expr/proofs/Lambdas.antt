@@ -5,6 +5,7 @@ use Rattle.lambda_expr.specs.declared.want.Want.{Want}
 use Rattle.lambda_expr.specs.declared.want.Want.TheVariants as want
 use Rattle.lambda_expr.specs.declared.lexeme.Lexeme.{Lexeme}
 use Rattle.lambda_expr.specs.declared.lexeme.Lexeme.TheVariants as word
+use Rattle.lambda_expr.specs.declared.lexeme.Numeral.TheVariants.{Places}
 use Rattle.lambda_expr.specs.Grammar.{number}
 use Rattle.lambda_expr.specs.HeadReading.{AreTried}
 use Rattle.lambda_expr.specs.Heads.{ABody, ALambda, BodyShape, expression, operands, IsBody, IsLambda, HasHead, IsOneOf, heads}
@@ -66,7 +67,7 @@ Bodies w front rest = ABody w rest
 
 a_body : (w : Want) → Follows (Bodies w)
 a_body want.Stream front = let b = stream_begins in (b.0, (operands b.1.0 b.1.1, b.1.2))
-a_body x front = (word.Number 0 ∷ [], (expression (number 0), record { binds = tt; spelled = refl }))
+a_body x front = (word.Number (Places 0) ∷ [], (expression (number (Places 0)), record { binds = tt; spelled = refl }))
 
 -- a lambda is a head and a body
 in_parts : (w : Want) (ws : List Lexeme) → ALambda w ws → HasHead (heads w) (Bodies w) ws

@@ -5,7 +5,7 @@ use Rattle.lambda_expr.specs.declared.step.Opening.{Opening}
 use Rattle.lambda_expr.specs.declared.step.Opening.TheVariants.{Paren, Call}
 use Rattle.lambda_expr.specs.declared.lexeme.Lexeme.{Lexeme}
 use Rattle.lambda_expr.specs.declared.lexeme.Lexeme.TheVariants as word
-use Rattle.lambda_expr.specs.Grammar.{Shape, name, number, truth, reference, cell, row, constant, prefix, binary, ternary, enclosed, opening, inside, spells, Binds, IsExpression, Expression}
+use Rattle.lambda_expr.specs.Grammar.{Shape, name, number, truth, reference, cell, decimal_cell, row, constant, prefix, binary, ternary, enclosed, opening, inside, spells, Binds, IsExpression, Expression}
 use Rattle.lambda_expr.specs.Signs.{level}
 use Rattle.lambda_expr.specs.Stops.{Begins}
 use Rattle.lambda_expr.specs.Reader.{Frame, opened, signed, left, question, colon, Top, joined, State, wants, has, calls, stuck, when, operates, asks, answers, shuts, follows, read, reads, settled, result_of, result_at, whole}
@@ -51,6 +51,7 @@ leads (number i) fs b = record { state = has fs (number i); frames = fs; shape =
 leads (truth i) fs b = record { state = has fs (truth i); frames = fs; shape = truth i; run = refl; settles = refl; same = λ k h c. refl }
 leads (reference i) fs b = record { state = has fs (reference i); frames = fs; shape = reference i; run = refl; settles = refl; same = λ k h c. refl }
 leads (cell i) fs b = record { state = has fs (cell i); frames = fs; shape = cell i; run = refl; settles = refl; same = λ k h c. refl }
+leads (decimal_cell i p) fs b = record { state = has fs (decimal_cell i p); frames = fs; shape = decimal_cell i p; run = refl; settles = refl; same = λ k h c. refl }
 leads row fs b = record { state = has fs row; frames = fs; shape = row; run = refl; settles = refl; same = λ k h c. refl }
 leads (constant i) fs b = record { state = calls fs Long i; frames = fs; shape = constant i; run = refl; settles = refl; same = λ k h c. refl }
 leads (prefix s a) fs b =

@@ -22,7 +22,7 @@ use Rattle.lambda_expr.specs.declared.source.StreamSource.{StreamSource}
 use Rattle.lambda_expr.specs.declared.source.StreamSource.TheVariants as source
 use Rattle.lambda_expr.specs.declared.step.Opening.TheVariants.{Paren, Call}
 use Rattle.lambda_expr.specs.Checks.{depth, fit, literals, names_known}
-use Rattle.lambda_expr.specs.Grammar.{Shape, cell, row, constant, prefix, binary, ternary, enclosed, opening, spells}
+use Rattle.lambda_expr.specs.Grammar.{Shape, cell, decimal_cell, row, constant, prefix, binary, ternary, enclosed, opening, spells}
 use Rattle.lambda_expr.specs.Heads.{BodyShape, expression, operands, IsBody, parameters}
 use Rattle.lambda_expr.specs.Lexemes.{Names, lexeme_of, lexemes_from, lexemes_of, name_of, names_in, symbol_lexeme}
 use Rattle.lambda_expr.specs.Members.{is_named}
@@ -133,6 +133,7 @@ of_call f t h = refl
 
 of_shape : (h : Names) (e : Shape) → AreNoPlaces (spells e) → typed_placeless (typed h e) ≡ true
 of_shape h (cell i) n = let no_place : true ≡ false = n.0 in absurd cc
+of_shape h (decimal_cell i p) n = let no_place : true ≡ false = n.0 in absurd cc
 of_shape h row n = let no_place : true ≡ false = n.0 in absurd cc
 of_shape h (constant i) n = of_constant (constant_of i)
 of_shape h (prefix s a) n = of_prefix s (typed h a) (of_shape h a n.1)

@@ -6,6 +6,7 @@ use Rattle.lambda_expr.specs.declared.lexeme.Lexeme.TheVariants as word
 use Rattle.lambda_expr.specs.declared.sign.Sign.TheVariants as sign
 use Rattle.lambda_expr.specs.declared.source.StreamSource.{StreamSource}
 use Rattle.lambda_expr.specs.declared.source.StreamSource.TheVariants as source
+use Rattle.lambda_expr.specs.declared.lexeme.Numeral.TheVariants.{Places}
 use Rattle.lambda_expr.specs.Grammar.{Shape, number, spells, Binds, IsExpression, Expression}
 use Rattle.lambda_expr.specs.Reader.{wants, stuck, operates, shuts, reads, result_of}
 use Rattle.lambda_expr.specs.SourceReading.{IsNext, Next, TakesMore}
@@ -68,7 +69,7 @@ split e es c w m b begins none is = by_levi e es c w m b begins none (levi (spel
 
 abbrev zeros : ℕ → List Shape
 zeros zero = []
-zeros (suc k) = number 0 ∷ zeros k
+zeros (suc k) = number (Places 0) ∷ zeros k
 
 zeros_bound : (k : ℕ) → AreBound (zeros k)
 zeros_bound zero = tt

@@ -3,15 +3,17 @@ use Rattle.std.proofs.Common.{◌≡◌, ◌≢◌, ℕ, ◌+◌, ◌<◌, ◌�
 use Rattle.std.proofs.lemmas.List.{take_all, take-append-drop}
 use Rattle.lambda_expr.specs.declared.lexeme.ClassName.{ClassName as Class}
 use Rattle.lambda_expr.specs.declared.lexeme.ClassName.TheVariants.{Long}
+use Rattle.lambda_expr.specs.declared.sign.Sign.TheVariants.{Comma}
 use Rattle.lambda_expr.specs.declared.step.Opening.TheVariants.{Call}
 use Rattle.lambda_expr.specs.declared.lexeme.Lexeme.{Lexeme}
 use Rattle.lambda_expr.specs.declared.lexeme.Lexeme.TheVariants as word
 use Rattle.lambda_expr.specs.declared.lexeme.Name.{Name}
 use Rattle.lambda_expr.specs.declared.lexeme.Name.TheVariants.{Plain, ClassName, Truth, LowerLong, Cell, Row}
-use Rattle.lambda_expr.specs.Grammar.{Shape, number, cell, row, constant, enclosed, opening, spells, Binds, IsExpression, Expression}
+use Rattle.lambda_expr.specs.declared.lexeme.Numeral.TheVariants.{Places}
+use Rattle.lambda_expr.specs.Grammar.{Shape, number, cell, decimal_cell, row, constant, enclosed, opening, spells, Binds, IsExpression, Expression}
 use Rattle.lambda_expr.specs.Signs.{level, is_prefix}
 use Rattle.lambda_expr.specs.Stops.{Begins, StopsAt}
-use Rattle.lambda_expr.specs.Reader.{Frame, opened, signed, left, question, joined, takes, State, wants, has, owns, dots, calls, at_cell, opens_cell, names_cell, at_row, opens_row, stuck, when, answers_at, shuts_at, follows, called, cell_opened, cell_named, cell_closed, row_opened, row_closed, read, reads, settled, only, result_of, result_at}
+use Rattle.lambda_expr.specs.Reader.{Frame, opened, signed, left, question, joined, takes, State, wants, has, owns, dots, calls, at_cell, opens_cell, names_cell, parts_cell, places_cell, at_row, opens_row, stuck, when, answers_at, shuts_at, follows, called, cell_opened, cell_named, cell_closed, cell_placed, decimal_closed, row_opened, row_closed, read, reads, settled, only, result_of, result_at}
 use Rattle.lambda_expr.proofs.Frames.{before, wanted, Ordered, after, filled, spells_filled, binds_filled, wanted_high, binds_lower, level_high, Keeps, join_keeps, join_stops, not_two, taken}
 use Rattle.lambda_expr.proofs.Leads.{at_top, reads_back, stuck_begins_none}
 
@@ -25,6 +27,8 @@ Stands ws (calls fs o i) = (before fs ++ word.Name (ClassName o) ∷ word.Dot �
 Stands ws (at_cell fs) = (before fs ++ word.Name Cell ∷ [] ≡ ws) × Ordered fs
 Stands ws (opens_cell fs) = (before fs ++ word.Name Cell ∷ word.Open ∷ [] ≡ ws) × Ordered fs
 Stands ws (names_cell fs i) = (before fs ++ word.Name Cell ∷ word.Open ∷ word.Text i ∷ [] ≡ ws) × Ordered fs
+Stands ws (parts_cell fs i) = (before fs ++ word.Name Cell ∷ word.Open ∷ word.Text i ∷ word.Sign Comma ∷ [] ≡ ws) × Ordered fs
+Stands ws (places_cell fs i p) = (before fs ++ word.Name Cell ∷ word.Open ∷ word.Text i ∷ word.Sign Comma ∷ word.Number (Places p) ∷ [] ≡ ws) × Ordered fs
 Stands ws (at_row fs) = (before fs ++ word.Name Row ∷ [] ≡ ws) × Ordered fs
 Stands ws (opens_row fs) = (before fs ++ word.Name Row ∷ word.Open ∷ [] ≡ ws) × Ordered fs
 Stands ws stuck = Unit {0}
@@ -46,17 +50,19 @@ completes ws fs e front rest h s o b = (
 )
 
 abbrev some_call : Class → Name → Shape
-some_call o i = enclosed (Call o i) (number 0)
+some_call o i = enclosed (Call o i) (number (Places 0))
 
 pub begins_of : (ws : List Lexeme) (s : State) → s ≢ stuck → Stands ws s → Begins Expression ws
-begins_of ws (wants fs) n s = completes ws fs (number 0) [] (word.Number 0 ∷ []) (append-nil (before fs) ∙ s.0) refl s.1 tt
+begins_of ws (wants fs) n s = completes ws fs (number (Places 0)) [] (word.Number (Places 0) ∷ []) (append-nil (before fs) ∙ s.0) refl s.1 tt
 begins_of ws (has fs e) n s = completes ws fs e (spells e) [] s.0 (sym (append-nil (spells e))) s.1 (let h = wanted_high fs in let k : wanted fs ≤ 13 = omega arith in binds_lower e 13 (wanted fs) k s.2)
-begins_of ws (owns fs o) n s = completes ws fs (some_call o LowerLong) (word.Name (ClassName o) ∷ []) (word.Dot ∷ word.Name LowerLong ∷ word.Open ∷ word.Number 0 ∷ word.Close ∷ []) s.0 refl s.1 tt
-begins_of ws (dots fs o) n s = completes ws fs (some_call o LowerLong) (word.Name (ClassName o) ∷ word.Dot ∷ []) (word.Name LowerLong ∷ word.Open ∷ word.Number 0 ∷ word.Close ∷ []) s.0 refl s.1 tt
-begins_of ws (calls fs o i) n s = completes ws fs (some_call o i) (word.Name (ClassName o) ∷ word.Dot ∷ word.Name i ∷ []) (word.Open ∷ word.Number 0 ∷ word.Close ∷ []) s.0 refl s.1 tt
+begins_of ws (owns fs o) n s = completes ws fs (some_call o LowerLong) (word.Name (ClassName o) ∷ []) (word.Dot ∷ word.Name LowerLong ∷ word.Open ∷ word.Number (Places 0) ∷ word.Close ∷ []) s.0 refl s.1 tt
+begins_of ws (dots fs o) n s = completes ws fs (some_call o LowerLong) (word.Name (ClassName o) ∷ word.Dot ∷ []) (word.Name LowerLong ∷ word.Open ∷ word.Number (Places 0) ∷ word.Close ∷ []) s.0 refl s.1 tt
+begins_of ws (calls fs o i) n s = completes ws fs (some_call o i) (word.Name (ClassName o) ∷ word.Dot ∷ word.Name i ∷ []) (word.Open ∷ word.Number (Places 0) ∷ word.Close ∷ []) s.0 refl s.1 tt
 begins_of ws (at_cell fs) n s = completes ws fs (cell 0) (word.Name Cell ∷ []) (word.Open ∷ word.Text 0 ∷ word.Close ∷ []) s.0 refl s.1 tt
 begins_of ws (opens_cell fs) n s = completes ws fs (cell 0) (word.Name Cell ∷ word.Open ∷ []) (word.Text 0 ∷ word.Close ∷ []) s.0 refl s.1 tt
 begins_of ws (names_cell fs i) n s = completes ws fs (cell i) (word.Name Cell ∷ word.Open ∷ word.Text i ∷ []) (word.Close ∷ []) s.0 refl s.1 tt
+begins_of ws (parts_cell fs i) n s = completes ws fs (decimal_cell i 0) (word.Name Cell ∷ word.Open ∷ word.Text i ∷ word.Sign Comma ∷ []) (word.Number (Places 0) ∷ word.Close ∷ []) s.0 refl s.1 tt
+begins_of ws (places_cell fs i p) n s = completes ws fs (decimal_cell i p) (word.Name Cell ∷ word.Open ∷ word.Text i ∷ word.Sign Comma ∷ word.Number (Places p) ∷ []) (word.Close ∷ []) s.0 refl s.1 tt
 begins_of ws (at_row fs) n s = completes ws fs row (word.Name Row ∷ []) (word.Open ∷ word.Close ∷ []) s.0 refl s.1 tt
 begins_of ws (opens_row fs) n s = completes ws fs row (word.Name Row ∷ word.Open ∷ []) (word.Close ∷ []) s.0 refl s.1 tt
 begins_of ws stuck n s = absurd (n refl)
@@ -147,7 +153,16 @@ named_on ws fs y s = tt
 
 closed_on : (ws : List Lexeme) (fs : List Frame) (i : ℕ) (w : Lexeme) → Stands ws (names_cell fs i) → Stands (put ws w) (cell_closed fs i w)
 closed_on ws fs i word.Close s = (more ws (word.Name Cell ∷ word.Open ∷ word.Text i ∷ []) word.Close fs s.0, s.1, tt)
+closed_on ws fs i (word.Sign Comma) s = (more ws (word.Name Cell ∷ word.Open ∷ word.Text i ∷ []) (word.Sign Comma) fs s.0, s.1)
 closed_on ws fs i y s = tt
+
+placed_on : (ws : List Lexeme) (fs : List Frame) (i : ℕ) (w : Lexeme) → Stands ws (parts_cell fs i) → Stands (put ws w) (cell_placed fs i w)
+placed_on ws fs i (word.Number (Places p)) s = (more ws (word.Name Cell ∷ word.Open ∷ word.Text i ∷ word.Sign Comma ∷ []) (word.Number (Places p)) fs s.0, s.1)
+placed_on ws fs i y s = tt
+
+decimal_closed_on : (ws : List Lexeme) (fs : List Frame) (i p : ℕ) (w : Lexeme) → Stands ws (places_cell fs i p) → Stands (put ws w) (decimal_closed fs i p w)
+decimal_closed_on ws fs i p word.Close s = (more ws (word.Name Cell ∷ word.Open ∷ word.Text i ∷ word.Sign Comma ∷ word.Number (Places p) ∷ []) word.Close fs s.0, s.1, tt)
+decimal_closed_on ws fs i p y s = tt
 
 row_opened_on : (ws : List Lexeme) (fs : List Frame) (w : Lexeme) → Stands ws (at_row fs) → Stands (put ws w) (row_opened fs w)
 row_opened_on ws fs word.Open s = (more ws (word.Name Row ∷ []) word.Open fs s.0, s.1)
@@ -167,6 +182,8 @@ keeps ws (calls fs o i) w s = called_on ws fs o i w s
 keeps ws (at_cell fs) w s = opened_on ws fs w s
 keeps ws (opens_cell fs) w s = named_on ws fs w s
 keeps ws (names_cell fs i) w s = closed_on ws fs i w s
+keeps ws (parts_cell fs i) w s = placed_on ws fs i w s
+keeps ws (places_cell fs i p) w s = decimal_closed_on ws fs i p w s
 keeps ws (at_row fs) w s = row_opened_on ws fs w s
 keeps ws (opens_row fs) w s = row_closed_on ws fs w s
 keeps ws stuck w s = tt

@@ -10,6 +10,7 @@ use Rattle.lambda_expr.specs.declared.source.StreamSource.{StreamSource}
 use Rattle.lambda_expr.specs.declared.source.StreamSource.TheVariants as source
 use Rattle.lambda_expr.specs.declared.source.Opened.{Opened}
 use Rattle.lambda_expr.specs.declared.sign.Sign.TheVariants.{Comma}
+use Rattle.lambda_expr.specs.declared.lexeme.Numeral.TheVariants.{Places}
 use Rattle.lambda_expr.specs.Grammar.{Shape, number}
 use Rattle.lambda_expr.specs.SourceReading.{Operands, dotted_at, named_at, opened_at, sourced_at, stream_at}
 use Rattle.lambda_expr.specs.Sources.{IsDotted, IsNamed, IsOpened, IsStream, source_of}
@@ -32,7 +33,7 @@ AnOpened s ws = (es : List Shape) × IsOpened s es ws
 pub some_list : (s : StreamSource) → (us : List Lexeme) × Operands s us
 some_list source.Of = (word.Close ∷ [], ([], record { count = tt; bound = tt; spelled = refl }))
 some_list source.Empty = (word.Close ∷ [], ([], record { count = refl; bound = tt; spelled = refl }))
-some_list x = (word.Number 0 ∷ word.Sign Comma ∷ word.Number 0 ∷ word.Close ∷ [], (number 0 ∷ number 0 ∷ [], record { count = refl; bound = (tt, (tt, tt)); spelled = refl }))
+some_list x = (word.Number (Places 0) ∷ word.Sign Comma ∷ word.Number (Places 0) ∷ word.Close ∷ [], (number (Places 0) ∷ number (Places 0) ∷ [], record { count = refl; bound = (tt, (tt, tt)); spelled = refl }))
 
 opened_begins : (s : StreamSource) → Begins (AnOpened s) []
 opened_begins s = let l = some_list s in (word.Open ∷ l.0, (l.1.0, l.1.1))

@@ -7,8 +7,9 @@ use Rattle.lambda_expr.specs.declared.sign.Sign.{Sign}
 use Rattle.lambda_expr.specs.declared.sign.Sign.TheVariants as sign
 use Rattle.lambda_expr.specs.declared.step.Opening.{Opening}
 use Rattle.lambda_expr.specs.declared.step.Opening.TheVariants.{Paren, Call}
-use Rattle.lambda_expr.specs.Grammar.{Shape, name, number, truth, reference, cell, row, constant, prefix, binary}
-use Rattle.lambda_expr.specs.Grammar.{ternary, enclosed}
+use Rattle.lambda_expr.specs.Grammar.{Shape, name, number, truth, reference, cell, decimal_cell, row, constant}
+use Rattle.lambda_expr.specs.Grammar.{prefix, binary, ternary, enclosed}
+use Rattle.lambda_expr.specs.Lexemes.{value_in}
 use Rattle.lambda_expr.specs.Typing.{constant_of, function_of}
 
 -- whether the numbers of an expression fit; a number by itself is at most 2^63 - 1
@@ -31,10 +32,11 @@ signed s l = if is_minus s then negated l else Fit (fit l)
 -- the number that an expression is, or whether its numbers fit
 abbrev pub literals : Shape → Literals
 literals (name i) = Fit true
-literals (number n) = Number n
+literals (number n) = Number (value_in n)
 literals (truth b) = Fit true
 literals (reference i) = Fit true
 literals (cell i) = Fit true
+literals (decimal_cell i p) = Fit true
 literals row = Fit true
 literals (constant n) = Fit true
 literals (prefix s a) = signed s (literals a)
@@ -53,6 +55,7 @@ depth (number n) = 1
 depth (truth b) = 1
 depth (reference i) = 1
 depth (cell i) = 1
+depth (decimal_cell i p) = 1
 depth row = 1
 depth (constant n) = 1
 depth (prefix s a) = suc (depth a)
@@ -72,6 +75,7 @@ names_known n (number k) = true
 names_known n (truth b) = true
 names_known n (reference i) = true
 names_known n (cell i) = true
+names_known n (decimal_cell i p) = true
 names_known n row = true
 names_known n (constant c) = is_some (constant_of c)
 names_known n (prefix s a) = names_known n a

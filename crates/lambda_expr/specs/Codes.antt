@@ -10,13 +10,13 @@ use Rattle.lambda_expr.specs.declared.parse.Held.{Held}
 use Rattle.lambda_expr.specs.declared.parse.Held.TheVariants as held
 use Rattle.lambda_expr.specs.declared.parse.ParseStop.{ParseStop}
 use Rattle.lambda_expr.specs.declared.parse.ParseStop.TheVariants.{At, NoMemory}
-use Rattle.lambda_expr.specs.Grammar.{Shape, name, number, truth, reference, cell, row, constant, prefix, binary}
-use Rattle.lambda_expr.specs.Grammar.{ternary, enclosed, postfix, IsExpression}
+use Rattle.lambda_expr.specs.Grammar.{Shape, name, number, truth, reference, cell, decimal_cell, row, constant}
+use Rattle.lambda_expr.specs.Grammar.{prefix, binary, ternary, enclosed, postfix, IsExpression}
 use Rattle.lambda_expr.specs.Signs.{level}
 use Rattle.lambda_expr.specs.Stops.{StopsAt}
 use Rattle.lambda_expr.specs.Reader.{Frame, opened, signed, left, question, colon, Top, State, wants, has, owns, dots}
-use Rattle.lambda_expr.specs.Reader.{calls, at_cell, opens_cell, names_cell, at_row, opens_row, stuck, settled}
-use Rattle.lambda_expr.specs.Reader.{result_of}
+use Rattle.lambda_expr.specs.Reader.{calls, at_cell, opens_cell, names_cell, parts_cell, places_cell, at_row, opens_row}
+use Rattle.lambda_expr.specs.Reader.{stuck, settled, result_of}
 
 abbrev pub reduced : ℕ → Pending → Option ParseStep
 reduced n (pending.Opened o) = None
@@ -27,7 +27,7 @@ reduced n pending.Colon = if nat_lt 1 n then None else Some step.Ternary
 
 -- the last shape, and those before it
 abbrev pub shape_on : List Shape → Shape
-shape_on [] = number 0
+shape_on [] = row
 shape_on (a ∷ vs) = a
 
 abbrev pub rest : List Shape → List Shape
@@ -41,6 +41,7 @@ apply (step.Number i) vs = number i ∷ vs
 apply (step.Truth i) vs = truth i ∷ vs
 apply (step.Reference i) vs = reference i ∷ vs
 apply (step.Cell i) vs = cell i ∷ vs
+apply (step.DecimalCell i p) vs = decimal_cell i p ∷ vs
 apply step.Row vs = row ∷ vs
 apply (step.Constant i) vs = constant i ∷ vs
 apply (step.Prefix s) vs = prefix s (shape_on vs) ∷ rest vs
@@ -70,6 +71,8 @@ state_on ps vs (held.Callee o i) = calls (frames_of ps vs) o i
 state_on ps vs held.Cell = at_cell (frames_of ps vs)
 state_on ps vs held.CellOpen = opens_cell (frames_of ps vs)
 state_on ps vs (held.CellText i) = names_cell (frames_of ps vs) i
+state_on ps vs (held.CellComma i) = parts_cell (frames_of ps vs) i
+state_on ps vs (held.CellPlaces i p) = places_cell (frames_of ps vs) i p
 state_on ps vs held.Row = at_row (frames_of ps vs)
 state_on ps vs held.RowOpen = opens_row (frames_of ps vs)
 
@@ -94,6 +97,8 @@ code_of (calls fs o i) = coded fs
 code_of (at_cell fs) = coded fs
 code_of (opens_cell fs) = coded fs
 code_of (names_cell fs i) = coded fs
+code_of (parts_cell fs i) = coded fs
+code_of (places_cell fs i p) = coded fs
 code_of (at_row fs) = coded fs
 code_of (opens_row fs) = coded fs
 code_of stuck = []

@@ -5,7 +5,8 @@ use Rattle.lambda_expr.specs.declared.step.ParseStep.TheVariants as step
 use Rattle.lambda_expr.specs.declared.step.Opening.TheVariants.{Paren, Call}
 use Rattle.lambda_expr.specs.declared.elaborate.TypedOperand.{TypedOperand}
 use Rattle.lambda_expr.specs.declared.elaborate.TypedOperand.TheVariants as operand
-use Rattle.lambda_expr.specs.Lexemes.{Names}
+use Rattle.job_names.specs.ColumnKeys.{key_of}
+use Rattle.lambda_expr.specs.Lexemes.{Names, value_in}
 use Rattle.lambda_expr.specs.Stacks.{below, top_or}
 use Rattle.lambda_values.specs.Term as term
 use Rattle.lambda_values.specs.Term.{long_of, truth_of}
@@ -31,10 +32,11 @@ top_typed ts = top_or untyped ts
 -- one step over the terms of operands
 abbrev pub typed_step : Names → ParseStep → List Typed → List Typed
 typed_step h (step.Name i) ts = long (term.parameter i.number) ∷ ts
-typed_step h (step.Number n) ts = long (term.number (wrap (pos n))) ∷ ts
+typed_step h (step.Number n) ts = long (term.number (wrap (pos (value_in n)))) ∷ ts
 typed_step h (step.Truth b) ts = boolean (term.literal b) ∷ ts
 typed_step h (step.Reference i) ts = long (term.reference (h i)) ∷ ts
 typed_step h (step.Cell i) ts = long (term.cell (h i)) ∷ ts
+typed_step h (step.DecimalCell i p) ts = long (term.cell (key_of (h i) p)) ∷ ts
 typed_step h step.Row ts = long term.row ∷ ts
 typed_step h (step.Constant n) ts = constant_typed (constant_of n) ∷ ts
 typed_step h (step.Prefix s) ts = prefixed s (top_typed ts) ∷ below ts

@@ -7,20 +7,24 @@ use Rattle.lambda_expr.specs.declared.step.Opening.TheVariants.{Paren, Call}
 use Rattle.lambda_expr.specs.declared.lexeme.Lexeme.{Lexeme}
 use Rattle.lambda_expr.specs.declared.lexeme.Lexeme.TheVariants as word
 use Rattle.lambda_expr.specs.declared.lexeme.Name.{Name}
+use Rattle.lambda_expr.specs.declared.lexeme.Numeral.{Numeral}
+use Rattle.lambda_expr.specs.declared.lexeme.Numeral.TheVariants.{Places}
 use Rattle.lambda_expr.specs.declared.lexeme.PlainName.{PlainName}
 use Rattle.lambda_expr.specs.declared.lexeme.Name.TheVariants.{Plain, ClassName, Truth, Cell, Row}
 use Rattle.lambda_expr.specs.declared.step.ParseStep.{ParseStep}
 use Rattle.lambda_expr.specs.declared.step.ParseStep.TheVariants as step
+use Rattle.lambda_expr.specs.declared.sign.Sign.TheVariants.{Comma}
 use Rattle.lambda_expr.specs.Signs.{is_infix, is_prefix, level}
 
 -- an expression as it is written; operands of a call hang together by commas, and a reference and a cell are known by
--- the places of their names
+-- the places of their names; a cell may be of a column with decimal places
 pub data Shape : Type 0 where
   name : PlainName → Shape
-  number : ℕ → Shape
+  number : Numeral → Shape
   truth : Bool → Shape
   reference : ℕ → Shape
   cell : ℕ → Shape
+  decimal_cell : ℕ → ℕ → Shape
   row : Shape
   constant : Name → Shape
   prefix : Sign → Shape → Shape
@@ -44,6 +48,8 @@ spells (number i) = word.Number i ∷ []
 spells (truth i) = word.Name (Truth i) ∷ []
 spells (reference i) = word.Reference i ∷ []
 spells (cell i) = word.Name Cell ∷ word.Open ∷ word.Text i ∷ word.Close ∷ []
+spells (decimal_cell i p) =
+    word.Name Cell ∷ word.Open ∷ word.Text i ∷ word.Sign Comma ∷ word.Number (Places p) ∷ word.Close ∷ []
 spells row = word.Name Row ∷ word.Open ∷ word.Close ∷ []
 spells (constant i) = word.Name (ClassName Long) ∷ word.Dot ∷ word.Name i ∷ []
 spells (prefix s a) = word.Sign s ∷ spells a
@@ -58,6 +64,7 @@ Binds n (number i) = Unit {0}
 Binds n (truth i) = Unit {0}
 Binds n (reference i) = Unit {0}
 Binds n (cell i) = Unit {0}
+Binds n (decimal_cell i p) = Unit {0}
 Binds n row = Unit {0}
 Binds n (constant i) = Unit {0}
 Binds n (prefix s a) = (n ≤ 12) × (is_prefix s ≡ true) × Binds 12 a
@@ -80,6 +87,7 @@ postfix (number i) = step.Number i ∷ []
 postfix (truth i) = step.Truth i ∷ []
 postfix (reference i) = step.Reference i ∷ []
 postfix (cell i) = step.Cell i ∷ []
+postfix (decimal_cell i p) = step.DecimalCell i p ∷ []
 postfix row = step.Row ∷ []
 postfix (constant i) = step.Constant i ∷ []
 postfix (prefix s a) = postfix a ++ step.Prefix s ∷ []

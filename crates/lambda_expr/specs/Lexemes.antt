@@ -8,9 +8,12 @@ use Rattle.lambda_expr.specs.declared.sign.Sign.{Sign}
 use Rattle.lambda_expr.specs.declared.lexeme.Lexeme.{Lexeme}
 use Rattle.lambda_expr.specs.declared.lexeme.Lexeme.TheVariants as lexeme
 use Rattle.lambda_expr.specs.declared.lexeme.Name.{Name}
+use Rattle.lambda_expr.specs.declared.lexeme.Numeral.{Numeral}
+use Rattle.lambda_expr.specs.declared.lexeme.Numeral.TheVariants.{Places, Value}
 use Rattle.lambda_expr.specs.declared.lexeme.Name.TheVariants.{Plain, ClassName, Truth, LowerLong, LongStream}
 use Rattle.lambda_expr.specs.declared.lexeme.Name.TheVariants.{Cell, Row}
 use Rattle.lambda_expr.specs.declared.lexeme.ClassName.TheVariants.{Math, Long}
+use Rattle.job_names.specs.ColumnKeys.{places_of}
 use Rattle.lambda_expr.specs.Members.{is_named, member_of}
 use Rattle.lambda_expr.specs.Signs.{sign_of}
 use Rattle.lambda_expr.specs.Words.{Word, named, numeral, quoted, referred, sign, bad, words_of}
@@ -57,9 +60,24 @@ name_of cells first second w =
     else (if cells && is_named w (codes "row") then Row
     else Plain (record { number = order_of first second w; member = member_of w }))))))))
 
--- a numeral by its value, or 2^64 - 1 if that is less
+-- helper: a number that may be a number of decimal places, or any other one by its value
+abbrev pub numeral_or : Option ℕ → ℕ → Numeral
+numeral_or (Some p) n = Places p
+numeral_or None n = Value n
+
+-- helper: a numeral: one that may be a number of decimal places, or any other one by its value, or by 2^64 - 1 if that
+-- is less
+abbrev pub numeral_of : List ℕ → Numeral
+numeral_of w = numeral_or (places_of w) (min (numeral_value w) (2 ^ 64 - 1))
+
+-- helper: its value
+abbrev pub value_in : Numeral → ℕ
+value_in (Places p) = p
+value_in (Value n) = n
+
+-- a number, if it may stand in a grammar
 abbrev pub number_lexeme : List ℕ → Lexeme
-number_lexeme w = if is_numeral w then lexeme.Number (min (numeral_value w) (2 ^ 64 - 1)) else lexeme.Other
+number_lexeme w = if is_numeral w then lexeme.Number (numeral_of w) else lexeme.Other
 
 -- the lexeme of the word at a place; a reference and a string are known by their places
 abbrev pub lexeme_of : Bool → Option (List ℕ) → Option (List ℕ) → ℕ → Word → Lexeme

@@ -12,8 +12,8 @@ use Rattle.lambda_expr.specs.declared.step.Opening.TheVariants.{Paren, Call}
 use Rattle.lambda_values.specs.declared.operator.BinaryOperator.TheVariants as binary_operator
 use Rattle.lambda_expr.specs.declared.operation.Function.{Function}
 use Rattle.lambda_expr.specs.declared.operation.Function.TheVariants.{Binary}
-use Rattle.lambda_expr.specs.Grammar.{Shape, name, number, truth, reference, cell, row, constant, prefix, binary}
-use Rattle.lambda_expr.specs.Grammar.{ternary, enclosed}
+use Rattle.lambda_expr.specs.Grammar.{Shape, name, number, truth, reference, cell, decimal_cell, row, constant}
+use Rattle.lambda_expr.specs.Grammar.{prefix, binary, ternary, enclosed}
 use Rattle.lambda_expr.specs.Typing.{function_of}
 
 -- a name by itself: `a`, `b`
@@ -60,6 +60,7 @@ form (number n) = Single Other
 form (truth b) = Single Other
 form (reference i) = Single Other
 form (cell i) = Single Other
+form (decimal_cell i p) = Single Other
 form row = Single Other
 form (constant n) = Single Other
 form (prefix s a) = Single Other

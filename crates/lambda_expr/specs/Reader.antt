@@ -9,9 +9,10 @@ use Rattle.lambda_expr.specs.declared.step.Opening.TheVariants.{Paren, Call}
 use Rattle.lambda_expr.specs.declared.lexeme.Lexeme.{Lexeme}
 use Rattle.lambda_expr.specs.declared.lexeme.Lexeme.TheVariants as word
 use Rattle.lambda_expr.specs.declared.lexeme.Name.{Name}
+use Rattle.lambda_expr.specs.declared.lexeme.Numeral.TheVariants.{Places}
 use Rattle.lambda_expr.specs.declared.lexeme.Name.TheVariants.{Plain, ClassName, Truth, Cell, Row}
-use Rattle.lambda_expr.specs.Grammar.{Shape, name, number, truth, reference, cell, row, constant, prefix, binary}
-use Rattle.lambda_expr.specs.Grammar.{ternary, enclosed}
+use Rattle.lambda_expr.specs.Grammar.{Shape, name, number, truth, reference, cell, decimal_cell, row, constant}
+use Rattle.lambda_expr.specs.Grammar.{prefix, binary, ternary, enclosed}
 use Rattle.lambda_expr.specs.Signs.{level, is_infix, is_prefix}
 
 -- what waits for the operand to its right
@@ -47,6 +48,8 @@ pub data State : Type 0 where
   at_cell : List Frame → State
   opens_cell : List Frame → State
   names_cell : List Frame → ℕ → State
+  parts_cell : List Frame → ℕ → State
+  places_cell : List Frame → ℕ → ℕ → State
   at_row : List Frame → State
   opens_row : List Frame → State
   stuck : State
@@ -123,7 +126,7 @@ abbrev pub called : List Frame → Class → Name → Lexeme → State
 called fs o i word.Open = wants (opened (Call o i) ∷ fs)
 called fs o i w = alone fs o i w
 
--- `cell ( STRING )`
+-- `cell ( STRING )` and `cell ( STRING , PLACES )`
 abbrev pub cell_opened : List Frame → Lexeme → State
 cell_opened fs word.Open = opens_cell fs
 cell_opened fs w = stuck
@@ -134,7 +137,16 @@ cell_named fs w = stuck
 
 abbrev pub cell_closed : List Frame → ℕ → Lexeme → State
 cell_closed fs i word.Close = has fs (cell i)
+cell_closed fs i (word.Sign sign.Comma) = parts_cell fs i
 cell_closed fs i w = stuck
+
+abbrev pub cell_placed : List Frame → ℕ → Lexeme → State
+cell_placed fs i (word.Number (Places p)) = places_cell fs i p
+cell_placed fs i w = stuck
+
+abbrev pub decimal_closed : List Frame → ℕ → ℕ → Lexeme → State
+decimal_closed fs i p word.Close = has fs (decimal_cell i p)
+decimal_closed fs i p w = stuck
 
 -- `row ( )`
 abbrev pub row_opened : List Frame → Lexeme → State
@@ -154,6 +166,8 @@ read (calls fs o i) w = called fs o i w
 read (at_cell fs) w = cell_opened fs w
 read (opens_cell fs) w = cell_named fs w
 read (names_cell fs i) w = cell_closed fs i w
+read (parts_cell fs i) w = cell_placed fs i w
+read (places_cell fs i p) w = decimal_closed fs i p w
 read (at_row fs) w = row_opened fs w
 read (opens_row fs) w = row_closed fs w
 read stuck w = stuck

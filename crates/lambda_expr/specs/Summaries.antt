@@ -11,6 +11,7 @@ use Rattle.lambda_expr.specs.Checks.{depth, fit, is_comma, is_known, literals, n
 use Rattle.lambda_expr.specs.declared.check.BodyForm.TheVariants.{Single}
 use Rattle.lambda_values.specs.declared.lambda.PairForm.TheVariants.{Other}
 use Rattle.lambda_expr.specs.Grammar.{Shape}
+use Rattle.lambda_expr.specs.Lexemes.{value_in}
 use Rattle.lambda_expr.specs.PairForms.{binary_form, enclosed_form, form, name_form}
 use Rattle.lambda_expr.specs.Stacks.{below, top_or}
 use Rattle.lambda_expr.specs.Typing.{constant_of}
@@ -60,10 +61,12 @@ enclosed_summary o a =
 abbrev pub summary_step : ℕ → ParseStep → List Summary → List Summary
 summary_step p (step.Name i) ss =
     record { literals = Fit true; depth = 1; known = nat_lt i.number p; form = name_form i.number } ∷ ss
-summary_step p (step.Number n) ss = record { literals = Number n; depth = 1; known = true; form = Single Other } ∷ ss
+summary_step p (step.Number n) ss =
+    record { literals = Number (value_in n); depth = 1; known = true; form = Single Other } ∷ ss
 summary_step p (step.Truth b) ss = nothing ∷ ss
 summary_step p (step.Reference i) ss = nothing ∷ ss
 summary_step p (step.Cell i) ss = nothing ∷ ss
+summary_step p (step.DecimalCell i k) ss = nothing ∷ ss
 summary_step p step.Row ss = nothing ∷ ss
 summary_step p (step.Constant n) ss =
     record { literals = Fit true; depth = 1; known = is_some (constant_of n); form = Single Other } ∷ ss

@@ -14,10 +14,11 @@ use Rattle.lambda_expr.specs.declared.operation.SignOperation.TheVariants.{Compu
 use Rattle.lambda_expr.specs.declared.operation.Function.{Function}
 use Rattle.lambda_expr.specs.declared.operation.Function.TheVariants.{Unary, Binary}
 use Rattle.lambda_expr.specs.declared.step.Opening.TheVariants.{Paren, Call}
-use Rattle.lambda_expr.specs.Grammar.{Shape, name, number, truth, reference, cell, row, constant, prefix, binary}
-use Rattle.lambda_expr.specs.Grammar.{ternary, enclosed}
-use Rattle.lambda_expr.specs.Lexemes.{Names}
+use Rattle.lambda_expr.specs.Grammar.{Shape, name, number, truth, reference, cell, decimal_cell, row, constant}
+use Rattle.lambda_expr.specs.Grammar.{prefix, binary, ternary, enclosed}
+use Rattle.lambda_expr.specs.Lexemes.{Names, value_in}
 use Rattle.lambda_expr.specs.Signs.{operation_of}
+use Rattle.job_names.specs.ColumnKeys.{key_of}
 use Rattle.lambda_values.specs.Term as term
 use Rattle.lambda_values.specs.Term.{Long, Truth}
 use Rattle.lambda_values.specs.Wrap.{wrap}
@@ -85,10 +86,11 @@ constant_typed None = untyped
 -- the expression of a lambda, if its references have these names
 abbrev pub typed : Names → Shape → Typed
 typed h (name i) = long (term.parameter i.number)
-typed h (number n) = long (term.number (wrap (pos n)))
+typed h (number n) = long (term.number (wrap (pos (value_in n))))
 typed h (truth b) = boolean (term.literal b)
 typed h (reference i) = long (term.reference (h i))
 typed h (cell i) = long (term.cell (h i))
+typed h (decimal_cell i p) = long (term.cell (key_of (h i) p))
 typed h row = long term.row
 typed h (constant n) = constant_typed (constant_of n)
 typed h (prefix s a) = prefixed s (typed h a)

@@ -237,12 +237,15 @@ fn follow(stack: &mut Vec<Summary>, parameters: usize, step: ParseStep) -> Summa
             form: name_form(name.number),
             ..NOTHING
         },
-        ParseStep::Number(value) => Summary {
-            literals: Literals::Number(value),
+        ParseStep::Number(number) => Summary {
+            literals: Literals::Number(number.value()),
             ..NOTHING
         },
-        ParseStep::Truth(_) | ParseStep::Reference(_) | ParseStep::Cell(_) | ParseStep::Row =>
-            NOTHING,
+        ParseStep::Truth(_)
+        | ParseStep::Reference(_)
+        | ParseStep::Cell(_)
+        | ParseStep::DecimalCell(_, _)
+        | ParseStep::Row => NOTHING,
         ParseStep::Constant(name) => Summary {
             known: constant_of(name).is_some(),
             ..NOTHING

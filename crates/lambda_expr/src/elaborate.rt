@@ -8,7 +8,8 @@ ghost use Rattle.lambda_values.specs.Term.{long_of};
 ghost use Rattle.std.specs.Prelude.{◌≡◌, IfOk, List, [], ◌∷◌, ◌++◌};
 
 use super::making::{
-    binary, cell, choose_long, choose_truth, compare, connect, number, reference, unary,
+    binary, cell, choose_long, choose_truth, compare, connect, decimal_cell, number, reference,
+    unary,
 };
 use super::operation::{Function, SignOperation};
 use super::sign::Sign;
@@ -174,8 +175,9 @@ fn follow(
         ParseStep::Name(name) => Ok(TypedOperand::Long(LongExpr::Parameter(name.number))),
         ParseStep::Reference(place) => reference(alloc, text, place),
         ParseStep::Cell(place) => cell(alloc, text, place),
+        ParseStep::DecimalCell(place, places) => decimal_cell(alloc, text, place, places),
         ParseStep::Row => Ok(TypedOperand::Long(LongExpr::Row)),
-        ParseStep::Number(value) => Ok(number(value)),
+        ParseStep::Number(numeral) => Ok(number(numeral.value())),
         ParseStep::Truth(value) => Ok(TypedOperand::Truth(BoolExpr::Literal(value))),
         ParseStep::Constant(name) => match constant_of(name) {
             Some(value) => Ok(TypedOperand::Long(LongExpr::Number(value))),

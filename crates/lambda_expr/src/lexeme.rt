@@ -1,15 +1,17 @@
 //! What the tokens of a text are to the grammar of lambdas.
 
 ghost use Rattle.lambda_expr.specs.Lexemes.{between_quotes, first_name, is_reserved, is_taken, lexeme_of};
-ghost use Rattle.lambda_expr.specs.Lexemes.{lexemes_of, name_of, names_in, number_lexeme, order_of, reference_name};
-ghost use Rattle.lambda_expr.specs.Lexemes.{symbol_lexeme};
+ghost use Rattle.lambda_expr.specs.Lexemes.{lexemes_of, name_of, names_in, number_lexeme, numeral_of, order_of};
+ghost use Rattle.lambda_expr.specs.Lexemes.{reference_name, symbol_lexeme, value_in};
+ghost use Rattle.lambda_expr.specs.Numerals.{numeral_value};
 ghost use Rattle.lambda_expr.specs.CodeWords.{word_of, words_in};
-ghost use Rattle.std.specs.Prelude.{◌≡◌, ◌≤◌, drop, get_or, length, option_copied, take};
+ghost use Rattle.std.specs.Prelude.{◌≡◌, ◌≤◌, ◌-◌, ◌^◌, drop, get_or, length, min, option_copied, take};
 
 use super::number::{may_stand, numeral_value};
 use super::sign::Sign;
 use super::table::{Member, member_of};
 use super::word::{Word, word_at};
+use job_names::places_of;
 use std::marker::Model;
 use stream_tokens::{CutText, Symbol};
 
@@ -46,12 +48,21 @@ pub(crate) enum Name {
     Row,
 }
 
-/// What a token is to the grammar: a number by its value, or the greatest `u64` if that is less.
+/// A number as it is written.
+#[derive(Clone, Copy)]
+pub(crate) enum Numeral {
+    /// One that may be a number of decimal places: 0 to 18, in digits alone.
+    Places(u8),
+    /// Any other one by its value, or by the greatest `u64` if that is less.
+    Value(u64),
+}
+
+/// What a token is to the grammar.
 #[derive(Clone, Copy)]
 pub(crate) enum Lexeme {
     Open,
     Name(Name),
-    Number(u64),
+    Number(Numeral),
     /// A reference, by the place of its token.
     Reference(usize),
     /// A string, by the place of its token, in a text that may have cells and rows.
@@ -123,11 +134,34 @@ fn symbol_lexeme(symbol: Symbol) -> Lexeme
     }
 }
 
+impl Numeral {
+    // The numeral that a word is.
+    fn of(number: &[u8]) -> Numeral
+        ensures numeral { result ≡ numeral_of number.now }
+        ensures value { value_in result ≡ min (numeral_value number.now) (2 ^ 64 - 1) }
+    {
+        match places_of(number) {
+            Some(places) => Numeral::Places(places),
+            None => Numeral::Value(numeral_value(number)),
+        }
+    }
+
+    /// Its value.
+    pub(crate) fn value(self) -> u64
+        ensures { result ≡ value_in self }
+    {
+        match self {
+            Numeral::Places(places) => u64::from(places),
+            Numeral::Value(value) => value,
+        }
+    }
+}
+
 fn number_lexeme(number: &[u8]) -> Lexeme
     ensures { result ≡ number_lexeme number.now }
 {
     if may_stand(number) {
-        Lexeme::Number(numeral_value(number))
+        Lexeme::Number(Numeral::of(number))
     } else {
         Lexeme::Other
     }

@@ -1,11 +1,11 @@
 //! Lambdas over numbers of 64 bits: reading them from texts.
 //!
-//! It stands on `stream_tokens`, which cuts a text into tokens, and on `lambda_values`, which has the
-//! expressions and their values. Its users:
+//! It stands on `stream_tokens`, which cuts a text into tokens, on `lambda_values`, which has the expressions and their
+//! values, and on `job_names`, which has the names of columns with decimal places. Its users:
 //! - `job_language` reads lambdas by `read_lambda_within`, clauses `ok` and `refused`: a part of a text that is cut
 //!   already gives the lambda that it spells, or the first refusal that applies, a syntax fault with its column. Its
-//!   caller says whether the text may have `cell("name")` and `row()`. It reads numbers by `is_number` and
-//!   `number_read`, and other words by `word_at`: a word is a function of a token.
+//!   caller says whether the text may have `cell("name")`, `cell("name", 2)` and `row()`. It reads numbers by
+//!   `is_number` and `number_read`, and other words by `word_at`: a word is a function of a token.
 //! - other programs read whole texts by `read_lambda` and `read_number`.
 //!
 //! `each_text_has_an_answer`, `one_answer` and `one_number` say that there is one answer and no other; `without_cells`
@@ -44,6 +44,6 @@ pub use laws::{
     without_cells,
 };
 pub use number::{is_number, may_stand, number_read, read_number};
-pub use read::{read_lambda, read_lambda_of, read_lambda_within};
+pub use read::{read_lambda, read_lambda_within};
 pub use want::Want;
 pub use word::{Word, word_at};

@@ -6,10 +6,12 @@ ghost use Rattle.lambda_values.specs.Term as term;
 ghost use Rattle.lambda_values.specs.Term.{long_of, truth_of};
 ghost use Rattle.lambda_expr.specs.Typing.{long, boolean};
 ghost use Rattle.lambda_values.specs.Wrap.{wrap};
+ghost use Rattle.job_names.specs.ColumnKeys.{key_of};
 ghost use Rattle.std.specs.Prelude.{◌≡◌, IfOk, pos};
 
 use super::elaborate::{Elaborated, TypedOperand};
 use super::lexeme::reference_name;
+use job_names::key_of;
 use lambda_values::{
     BinaryOperator, BoolChoice, BoolExpr, BoolPair, Comparison, Connective, LongChoice, LongExpr,
     LongPair, UnaryOperator,
@@ -84,4 +86,13 @@ pub(crate) fn cell(alloc: Global, text: &CutText, place: usize) -> Elaborated
 {
     let name = Bytes::from(Vec::from_slice(alloc, reference_name(text, place))?);
     Ok(TypedOperand::Long(LongExpr::Cell(Box::new(alloc, name)?)))
+}
+
+/// The cell of the column that the string at a place names, with this number of decimal places.
+pub(crate) fn decimal_cell(alloc: Global, text: &CutText, place: usize, places: u8) -> Elaborated
+    ensures { IfOk result (λ o. typed_of o
+        ≡ long (term.cell (key_of (names_in text.now.bytes text.now.tokens place) places))) }
+{
+    let key = Bytes::from(key_of(alloc, reference_name(text, place), places)?);
+    Ok(TypedOperand::Long(LongExpr::Cell(Box::new(alloc, key)?)))
 }

@@ -4,13 +4,13 @@ ghost use Rattle.std.specs.Prelude.{◌≡◌, ◌<◌, List, [], IfOk, IfErr};
 ghost use Rattle.lambda_expr.specs.declared.step.ParseStep.{ParseStep as step};
 ghost use Rattle.lambda_expr.specs.Grammar.{Expression};
 ghost use Rattle.lambda_expr.specs.Signs.{level};
-ghost use Rattle.lambda_expr.specs.Reader.{read, joins, starts, called, cell_closed, row_closed};
+ghost use Rattle.lambda_expr.specs.Reader.{read, joins, starts, called, cell_closed, decimal_closed, row_closed};
 ghost use Rattle.lambda_expr.specs.Codes.{reduced, state_of, top_of, IsCoded, IsSettled, Turns};
 ghost use Rattle.lambda_expr.specs.Codes.{frames_of, run, ArePostfix, IsStop};
 ghost use Rattle.lambda_expr.specs.declared.parse.ParseStop.TheVariants.{NoMemory};
 
 use super::following::follow;
-use super::lexeme::{ClassName, Lexeme, Lexemes, Name};
+use super::lexeme::{ClassName, Lexeme, Lexemes, Name, Numeral};
 use super::sign::Sign;
 use super::stack::Stack;
 use super::step::{Opening, ParseStep};
@@ -40,6 +40,10 @@ pub(crate) enum Held {
     CellOpen,
     /// `cell(` and a string, by its place.
     CellText(usize),
+    /// `cell(`, a string, by its place, and a comma.
+    CellComma(usize),
+    /// `cell(`, a string, by its place, a comma, and a number of decimal places.
+    CellPlaces(usize, u8),
     /// `row`.
     Row,
     /// `row(`.
@@ -203,6 +207,29 @@ fn close_cell(
             steps.push(ParseStep::Cell(place))?;
             Ok(Held::Complete)
         }
+        Lexeme::Sign(Sign::Comma) => Ok(Held::CellComma(place)),
+        _ => Err(ParseStop::At(at)),
+    }
+}
+
+// One more word after `cell(`, a string, a comma, and a number of decimal places.
+fn close_decimal(
+    stack: &Stack,
+    steps: &mut Vec<ParseStep>,
+    place: usize,
+    places: u8,
+    word: Lexeme,
+    at: usize,
+) -> Parsed<Held>
+    requires { IsCoded stack.now steps.old.items (Held.CellPlaces place places) }
+    ensures { Turns (decimal_closed (frames_of stack.now (run [] steps.old.items)) place places word)
+        at stack.now steps.new.items result }
+{
+    match word {
+        Lexeme::Close => {
+            steps.push(ParseStep::DecimalCell(place, places))?;
+            Ok(Held::Complete)
+        }
         _ => Err(ParseStop::At(at)),
     }
 }
@@ -254,6 +281,11 @@ fn turn(
             _ => Err(ParseStop::At(at)),
         },
         Held::CellText(place) => close_cell(stack, steps, place, word, at),
+        Held::CellComma(place) => match word {
+            Lexeme::Number(Numeral::Places(places)) => Ok(Held::CellPlaces(place, places)),
+            _ => Err(ParseStop::At(at)),
+        },
+        Held::CellPlaces(place, places) => close_decimal(stack, steps, place, places, word, at),
         Held::Row => match word {
             Lexeme::Open => Ok(Held::RowOpen),
             _ => Err(ParseStop::At(at)),

@@ -95,20 +95,9 @@ fn judge(alloc: Global, text: &CutText, body: &BodySteps, want: Want) -> Result<
     }
 }
 
-/// Reads a lambda of the wanted kind (JLS 17, 15.27) from a text that was cut already, as a part of a
-/// job's text is. It refuses as `read_lambda` does, and columns count from the text's first byte.
-///
-/// For other programs: `streamrun` says whether the text may have cells, by `read_lambda_within`.
-pub fn read_lambda_of(alloc: Global, text: &CutText, want: Want) -> Result<Lambda, ReadFault>
-    ensures ok { IfOk result (λ lambda. SpellsLambda text.now.bytes want lambda) }
-    ensures refused { IfErr result (λ fault. IsRefused text.now.bytes want fault) }
-    ensures memory { IfErr result (λ fault. fault ≡ ReadFault.NoMemory → text.now.bytes ≢ []) }
-{
-    read_lambda_within(alloc, text, want, false)
-}
-
-/// Reads a lambda as `read_lambda_of` does, from a text that may have cells and rows, as `cell("name")` and `row()`,
-/// or not.
+/// Reads a lambda of the wanted kind (JLS 17, 15.27) from a text that was cut already, as a part of a job's text is.
+/// The text may have cells and rows, as `cell("name")`, `cell("name", 2)` and `row()`, or not. It refuses as
+/// `read_lambda` does, and columns count from the text's first byte.
 pub fn read_lambda_within(
     alloc: Global,
     text: &CutText,
@@ -147,5 +136,5 @@ pub fn read_lambda(alloc: Global, text: &[u8], want: Want) -> Result<Lambda, Rea
     ensures memory { IfErr result (λ fault. fault ≡ ReadFault.NoMemory → text.now ≢ []) }
 {
     let tokens = cut(alloc, text)?;
-    read_lambda_of(alloc, &CutText::of(text, &tokens), want)
+    read_lambda_within(alloc, &CutText::of(text, &tokens), want, false)
 }

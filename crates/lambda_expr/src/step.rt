@@ -1,6 +1,6 @@
 //! Expressions in postfix order.
 
-use super::lexeme::{ClassName, Name, PlainName};
+use super::lexeme::{ClassName, Name, Numeral, PlainName};
 use super::sign::Sign;
 
 /// What a closing parenthesis ends.
@@ -15,12 +15,14 @@ pub(crate) enum Opening {
 pub(crate) enum ParseStep {
     Ternary,
     Name(PlainName),
-    Number(u64),
+    Number(Numeral),
     Truth(bool),
     /// A reference, by the place of its token.
     Reference(usize),
     /// A cell, by the place of the string that names its column.
     Cell(usize),
+    /// A cell of a column with decimal places, by the place of that string and their number.
+    DecimalCell(usize, u8),
     /// The place of the item.
     Row,
     Constant(Name),

@@ -1,5 +1,5 @@
 -- Meaning: the report of the jobs that a job file spells over a column file, in the form that is asked for.
-use Rattle.std.specs.Prelude.{◌≡◌, ℕ, List, [], Option, Some, None, Result, Ok, if◌then◌else◌}
+use Rattle.std.specs.Prelude.{◌≡◌, ◌||◌, ◌&&◌, ℕ, Bool, not, nat_le, List, [], Option, Some, None, Result, Ok, if◌then◌else◌}
 use Rattle.columns.specs.declared.fault.ColumnFault.{ColumnFault}
 use Rattle.columns.specs.TableForms.{AbstractForm, cells_by}
 use Rattle.tables.specs.Table.{NamedColumn}
@@ -15,7 +15,7 @@ use Rattle.run_settings.specs.TableSettings.{byte_of}
 use Rattle.run_settings.specs.declared.table.TableSetting.{TableSetting}
 use Rattle.run_settings.specs.declared.settings.Form.{Form}
 use Rattle.run_settings.specs.declared.settings.Form.TheVariants as form
-use Rattle.stream_tokens.specs.JobTexts.{job_texts_within}
+use Rattle.stream_tokens.specs.JobTexts.{job_texts_within, version_within}
 
 -- what a run is given: the bytes of the column file, if there is one, the bytes of the job file, and what its settings
 -- ask for
@@ -24,14 +24,26 @@ pub record Input : Type 0 where
   pub jobs : List ℕ
   pub asked : Asked
 
--- helper: the form that a setting asks for, where the columns with these names are looked at, if not all are
-abbrev pub form_with : TableSetting → Option (List (List ℕ)) → AbstractForm
-form_with setting names = record { separator = byte_of setting.separator; names = names; blank = setting.blank }
+-- helper: the form that a setting asks for, where columns are looked at under these names
+abbrev pub form_with : TableSetting → List (List ℕ) → AbstractForm
+form_with setting names = record { separator = byte_of setting.separator; is_all = not setting.only_named; names = names; blank = setting.blank }
 
--- the form in which a column file is read: as is asked for, and, if only the columns that jobs name are looked at, by the
--- names in this job file
+-- whether how a column file is read depends on the job file: where only named columns are looked at, and where job files
+-- of version 3 are read, which may look at columns with decimal places
+abbrev pub reads_by_jobs : Asked → Bool
+reads_by_jobs asked = asked.table.only_named || nat_le 3 asked.newest
+
+-- helper: whether how a column file is read depends on this job file
+abbrev pub is_read_by : Asked → List ℕ → Bool
+is_read_by asked jobs = asked.table.only_named || (nat_le 3 asked.newest && nat_le 3 (version_within asked.newest jobs))
+
+-- the names under which a job file looks at columns, if how a column file is read depends on it
+abbrev pub names_for : Asked → List ℕ → List (List ℕ)
+names_for asked jobs = if is_read_by asked jobs then names_of_texts (job_texts_within asked.newest jobs) else []
+
+-- the form in which a column file is read beside a job file
 abbrev pub form_for : Asked → List ℕ → AbstractForm
-form_for asked jobs = form_with asked.table (if asked.table.only_named then Some (names_of_texts (job_texts_within asked.newest jobs)) else None)
+form_for asked jobs = form_with asked.table (names_for asked jobs)
 
 -- the columns of a file in a form; without a file there are none
 abbrev pub columns_by : AbstractForm → Option (List ℕ) → Result (List NamedColumn) ColumnFault

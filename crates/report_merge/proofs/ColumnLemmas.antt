@@ -7,7 +7,7 @@ use Rattle.std.proofs.lemmas.List.{map-append}
 use Rattle.columns.specs.declared.fault.ColumnFault.{ColumnFault}
 use Rattle.columns.specs.Refusals.{header_fault}
 use Rattle.columns.specs.Table.{columns_under, first_number, unless}
-use Rattle.columns.specs.TableForms.{AbstractForm, filled, filled_rows, is_wanted, kept, rows_fault_in, table_by}
+use Rattle.columns.specs.TableForms.{AbstractForm, filled, filled_rows, kept, kept_names, looks_of, rows_fault_in, table_by}
 use Rattle.tables.specs.Table.{NamedColumn, cells_named}
 use Rattle.std.specs.Option.{option_or}
 use Rattle.report_merge.specs.Cuts.{AreBare, Row}
@@ -76,29 +76,33 @@ bare_cells (c ∷ columns) bare w vs h = by_name (bytes_eq c.name w) (bare_cells
 -- ---- a table that is read in a form
 
 module _ (form : AbstractForm) (header : Row) where
-  -- the cells of a row in the columns that are looked at
+  -- the names of the columns that are looked at
+  abbrev pub column_names : Row
+  column_names = kept_names (map (looks_of form) header) header
+
+  -- the cells of a row in these columns
   abbrev pub kept_cells : Row → Row
-  kept_cells cells = kept (map (is_wanted form.names) header) cells
+  kept_cells cells = kept (map (looks_of form) header) cells
 
   -- those of each row, blank ones written out
   abbrev pub kept_rows : List Row → List Row
   kept_rows rows = map kept_cells (filled_rows form.blank rows)
 
-  pub cells_count : (rows : List Row) (w : List ℕ) → length (cells_at (kept_cells header) (kept_rows rows) w) ≡ length rows
+  pub cells_count : (rows : List Row) (w : List ℕ) → length (cells_at column_names (kept_rows rows) w) ≡ length rows
   cells_count rows w =
-      count_at (kept_cells header) (kept_rows rows) w ∙ length-map kept_cells (filled_rows form.blank rows) ∙ length-map (map (filled form.blank)) rows
+      count_at column_names (kept_rows rows) w ∙ length-map kept_cells (filled_rows form.blank rows) ∙ length-map (map (filled form.blank)) rows
 
   pub cells_joined : (xs ys : List Row) (w : List ℕ)
-      → cells_at (kept_cells header) (kept_rows (xs ++ ys)) w ≡ cells_at (kept_cells header) (kept_rows xs) w ++ cells_at (kept_cells header) (kept_rows ys) w
+      → cells_at column_names (kept_rows (xs ++ ys)) w ≡ cells_at column_names (kept_rows xs) w ++ cells_at column_names (kept_rows ys) w
   cells_joined xs ys w =
-      ap (λ (rows : List Row). cells_at (kept_cells header) rows w)
+      ap (λ (rows : List Row). cells_at column_names rows w)
       (ap (map kept_cells) (map-append (map (filled form.blank)) xs ys) ∙ map-append kept_cells (filled_rows form.blank xs) (filled_rows form.blank ys))
-      ∙ joined_at (kept_cells header) (kept_rows xs) (kept_rows ys) w
+      ∙ joined_at column_names (kept_rows xs) (kept_rows ys) w
 
   -- a table has the columns under its header
-  pub table_columns : (rows : List Row) (columns : List NamedColumn) → table_by form (header ∷ rows) ≡ Ok columns → columns ≡ columns_under (kept_cells header) (kept_rows rows)
-  table_columns rows columns h = good (option_or (header_fault (kept_cells header)) (rows_fault_in (map (is_wanted form.names) header) 1 (filled_rows form.blank rows))) h
+  pub table_columns : (rows : List Row) (columns : List NamedColumn) → table_by form (header ∷ rows) ≡ Ok columns → columns ≡ columns_under column_names (kept_rows rows)
+  table_columns rows columns h = good (option_or (header_fault column_names) (rows_fault_in (map (looks_of form) header) 1 (filled_rows form.blank rows))) h
     where
-      good : (o : Option ColumnFault) → unless o (columns_under (kept_cells header) (kept_rows rows)) ≡ Ok columns → columns ≡ columns_under (kept_cells header) (kept_rows rows)
-      good None e = let same : columns_under (kept_cells header) (kept_rows rows) ≡ columns = cc in sym same
+      good : (o : Option ColumnFault) → unless o (columns_under column_names (kept_rows rows)) ≡ Ok columns → columns ≡ columns_under column_names (kept_rows rows)
+      good None e = let same : columns_under column_names (kept_rows rows) ≡ columns = cc in sym same
       good (Some f) e = absurd cc

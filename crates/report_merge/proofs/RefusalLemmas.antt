@@ -1,13 +1,12 @@
 -- The first part that is refused gives the refusal of the table.
 use Rattle.std.proofs.Common.{◌≡◌, ℕ, suc, ◌+◌, Bool, true, false, List, [], ◌∷◌, ◌++◌, length, append-nil, Option, Some, None, refl, sym, ap, ◌∙◌, arith}
-use Rattle.std.specs.Prelude.{ℤ, ◌==◌, ◌||◌, not, is_some, map, if◌then◌else◌}
+use Rattle.std.specs.Prelude.{ℤ, ◌==◌, map, if◌then◌else◌}
 use Rattle.std.specs.Option.{option_or}
 use Rattle.columns.specs.declared.fault.ColumnFault.{ColumnFault}
 use Rattle.columns.specs.declared.fault.ColumnFault.TheVariants.{SameName, BadNumber, RowLength, TooManyColumns}
-use Rattle.columns.specs.Number.{number_of}
 use Rattle.columns.specs.Refusals.{header_fault}
 use Rattle.columns.specs.Table.{columns_under, unless}
-use Rattle.columns.specs.TableForms.{AbstractForm, filled, filled_rows, is_wanted, kept, kept_fault, row_fault_in, rows_fault_in}
+use Rattle.columns.specs.TableForms.{AbstractForm, filled, filled_rows, is_good, kept, kept_fault, kept_names, looks_of, row_fault_in, rows_fault_in}
 use Rattle.tables.specs.Table.{NamedColumn}
 use Rattle.report_merge.specs.Cuts.{Row, all_rows}
 use Rattle.report_merge.specs.Refusals.{first_refusal, moved_refusal, refusal_in, refusal_of}
@@ -26,21 +25,21 @@ in_table (Some fault) columns = refl
 
 -- ---- rows that come later
 
-cells_later : (k r c : ℕ) (marks : List Bool) (cells : List (List ℕ)) → kept_fault marks (k + r) c cells ≡ moved_refusal k (kept_fault marks r c cells)
+cells_later : (k r c : ℕ) (looks : List (List ℕ)) (cells : List (List ℕ)) → kept_fault looks (k + r) c cells ≡ moved_refusal k (kept_fault looks r c cells)
 cells_later k r c [] cells = refl
-cells_later k r c (m ∷ marks) [] = refl
-cells_later k r c (m ∷ marks) (cell ∷ cells) = by_number (not m || is_some (number_of cell)) (cells_later k r (c + 1) marks cells)
+cells_later k r c (look ∷ looks) [] = refl
+cells_later k r c (look ∷ looks) (cell ∷ cells) = by_number (is_good look cell) (cells_later k r (c + 1) looks cells)
   where
-    by_number : (t : Bool) → kept_fault marks (k + r) (c + 1) cells ≡ moved_refusal k (kept_fault marks r (c + 1) cells)
-        → (if t then kept_fault marks (k + r) (c + 1) cells else Some (BadNumber (k + r) c)) ≡ moved_refusal k (if t then kept_fault marks r (c + 1) cells else Some (BadNumber r c))
+    by_number : (t : Bool) → kept_fault looks (k + r) (c + 1) cells ≡ moved_refusal k (kept_fault looks r (c + 1) cells)
+        → (if t then kept_fault looks (k + r) (c + 1) cells else Some (BadNumber (k + r) c)) ≡ moved_refusal k (if t then kept_fault looks r (c + 1) cells else Some (BadNumber r c))
     by_number true others = others
     by_number false others = refl
 
-row_later : (k r : ℕ) (marks : List Bool) (row : Row) → row_fault_in marks (k + r) row ≡ moved_refusal k (row_fault_in marks r row)
-row_later k r marks row = by_length (length row == length marks)
+row_later : (k r : ℕ) (looks : List (List ℕ)) (row : Row) → row_fault_in looks (k + r) row ≡ moved_refusal k (row_fault_in looks r row)
+row_later k r looks row = by_length (length row == length looks)
   where
-    by_length : (t : Bool) → (if t then kept_fault marks (k + r) 1 row else Some (RowLength (k + r))) ≡ moved_refusal k (if t then kept_fault marks r 1 row else Some (RowLength r))
-    by_length true = cells_later k r 1 marks row
+    by_length : (t : Bool) → (if t then kept_fault looks (k + r) 1 row else Some (RowLength (k + r))) ≡ moved_refusal k (if t then kept_fault looks r 1 row else Some (RowLength r))
+    by_length true = cells_later k r 1 looks row
     by_length false = refl
 
 moved_or : (k : ℕ) (a b : Option ColumnFault) → option_or (moved_refusal k a) (moved_refusal k b) ≡ moved_refusal k (option_or a b)
@@ -48,25 +47,25 @@ moved_or k None b = refl
 moved_or k (Some f) b = refl
 
 -- the fault of some rows of a table that is read in a form, from row r on
-abbrev fault_from : List Bool → Option ℤ → ℕ → List Row → Option ColumnFault
-fault_from marks blank r rows = rows_fault_in marks r (filled_rows blank rows)
+abbrev fault_from : List (List ℕ) → Option ℤ → ℕ → List Row → Option ColumnFault
+fault_from looks blank r rows = rows_fault_in looks r (filled_rows blank rows)
 
-rows_later : (k r : ℕ) (marks : List Bool) (blank : Option ℤ) (rows : List Row) → fault_from marks blank (k + r) rows ≡ moved_refusal k (fault_from marks blank r rows)
-rows_later k r marks blank [] = refl
-rows_later k r marks blank (row ∷ rows) =
+rows_later : (k r : ℕ) (looks : List (List ℕ)) (blank : Option ℤ) (rows : List Row) → fault_from looks blank (k + r) rows ≡ moved_refusal k (fault_from looks blank r rows)
+rows_later k r looks blank [] = refl
+rows_later k r looks blank (row ∷ rows) =
     let e : k + r + 1 ≡ k + (r + 1) = omega arith in
     let cells = map (filled blank) row in
-    (λ i. option_or (row_later k r marks cells i) (fault_from marks blank (e i) rows))
-    ∙ ap (option_or (moved_refusal k (row_fault_in marks r cells))) (rows_later k (r + 1) marks blank rows)
-    ∙ moved_or k (row_fault_in marks r cells) (fault_from marks blank (r + 1) rows)
+    (λ i. option_or (row_later k r looks cells i) (fault_from looks blank (e i) rows))
+    ∙ ap (option_or (moved_refusal k (row_fault_in looks r cells))) (rows_later k (r + 1) looks blank rows)
+    ∙ moved_or k (row_fault_in looks r cells) (fault_from looks blank (r + 1) rows)
 
-rows_joined : (r : ℕ) (marks : List Bool) (blank : Option ℤ) (xs ys : List Row) → fault_from marks blank r (xs ++ ys) ≡ option_or (fault_from marks blank r xs) (fault_from marks blank (r + length xs) ys)
-rows_joined r marks blank [] ys = let e : r ≡ r + 0 = omega arith in ap (λ (n : ℕ). fault_from marks blank n ys) e
-rows_joined r marks blank (x ∷ xs) ys =
+rows_joined : (r : ℕ) (looks : List (List ℕ)) (blank : Option ℤ) (xs ys : List Row) → fault_from looks blank r (xs ++ ys) ≡ option_or (fault_from looks blank r xs) (fault_from looks blank (r + length xs) ys)
+rows_joined r looks blank [] ys = let e : r ≡ r + 0 = omega arith in ap (λ (n : ℕ). fault_from looks blank n ys) e
+rows_joined r looks blank (x ∷ xs) ys =
     let e : r + 1 + length xs ≡ r + suc (length xs) = omega arith in
     let cells = map (filled blank) x in
-    ap (option_or (row_fault_in marks r cells)) (rows_joined (r + 1) marks blank xs ys ∙ ap (λ (n : ℕ). option_or (fault_from marks blank (r + 1) xs) (fault_from marks blank n ys)) e)
-    ∙ sym (or_grouped (row_fault_in marks r cells) (fault_from marks blank (r + 1) xs) (fault_from marks blank (r + length (x ∷ xs)) ys))
+    ap (option_or (row_fault_in looks r cells)) (rows_joined (r + 1) looks blank xs ys ∙ ap (λ (n : ℕ). option_or (fault_from looks blank (r + 1) xs) (fault_from looks blank n ys)) e)
+    ∙ sym (or_grouped (row_fault_in looks r cells) (fault_from looks blank (r + 1) xs) (fault_from looks blank (r + length (x ∷ xs)) ys))
 
 -- ---- parts
 
@@ -84,24 +83,24 @@ or_twice None a b = refl
 or_twice (Some f) a b = refl
 
 module _ (form : AbstractForm) (header : Row) where
-  abbrev marks : List Bool
-  marks = map (is_wanted form.names) header
+  abbrev looks : List (List ℕ)
+  looks = map (looks_of form) header
 
   abbrev names : Row
-  names = kept marks header
+  names = kept_names looks header
 
   -- the fault of the header, or else of some rows from row r on
   abbrev fault_over : ℕ → List Row → Option ColumnFault
-  fault_over r rows = option_or (header_fault names) (fault_from marks form.blank r rows)
+  fault_over r rows = option_or (header_fault names) (fault_from looks form.blank r rows)
 
   -- a table is refused for its header, or else for its rows
   refused_by : (rows : List Row) → refusal_of form (header ∷ rows) ≡ fault_over 1 rows
-  refused_by rows = in_table (fault_over 1 rows) (columns_under names (map (kept marks) (filled_rows form.blank rows)))
+  refused_by rows = in_table (fault_over 1 rows) (columns_under names (map (kept looks) (filled_rows form.blank rows)))
 
   part_refused : (before : ℕ) (rows : List Row) → fault_over (before + 1) rows ≡ moved_refusal before (refusal_of form (header ∷ rows))
   part_refused before rows =
-      (λ i. option_or (sym (header_same before names) i) (rows_later before 1 marks form.blank rows i))
-      ∙ moved_or before (header_fault names) (fault_from marks form.blank 1 rows)
+      (λ i. option_or (sym (header_same before names) i) (rows_later before 1 looks form.blank rows i))
+      ∙ moved_or before (header_fault names) (fault_from looks form.blank 1 rows)
       ∙ ap (moved_refusal before) (sym (refused_by rows))
 
   -- `before` rows come before these parts
@@ -113,8 +112,8 @@ module _ (form : AbstractForm) (header : Row) where
   parts_refused before rows (next ∷ tables) =
       let more = all_rows (next ∷ tables) in
       let e : before + 1 + length rows ≡ before + length rows + 1 = omega arith in
-      ap (option_or (header_fault names)) (rows_joined (before + 1) marks form.blank rows more)
-      ∙ sym (or_twice (header_fault names) (fault_from marks form.blank (before + 1) rows) (fault_from marks form.blank (before + 1 + length rows) more))
+      ap (option_or (header_fault names)) (rows_joined (before + 1) looks form.blank rows more)
+      ∙ sym (or_twice (header_fault names) (fault_from looks form.blank (before + 1) rows) (fault_from looks form.blank (before + 1 + length rows) more))
       ∙ (λ i. option_or (part_refused before rows i) (fault_over (e i) more))
       ∙ ap (option_or (moved_refusal before (refusal_of form (header ∷ rows)))) (parts_refused (before + length rows) next tables)
 

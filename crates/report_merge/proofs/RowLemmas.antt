@@ -1,15 +1,16 @@
 -- A job whose items are rows has a column among its sources.
 use Rattle.std.proofs.Common.{◌≡◌, inl, inr, ℕ, ◌+◌, ℤ, Bool, true, false, List, [], ◌∷◌, ◌++◌, length, Option, Some, None, Result, Ok, Err, refl, sym, ap, subst, ◌∙◌}
-use Rattle.std.specs.Prelude.{◌||◌}
+use Rattle.std.specs.Prelude.{◌||◌, ◌==◌, if◌then◌else◌}
 use Rattle.stream_tokens.specs.CutTexts.{TokenizedText}
 use Rattle.tables.specs.Table.{cells_named}
 use Rattle.lambda_expr.specs.Words.{Word}
 use Rattle.job_language.specs.declared.fault.Cause.{Cause}
 use Rattle.job_language.specs.declared.operation.Operation.{Operation}
 use Rattle.job_language.specs.declared.operation.Operation.TheVariants as operation
-use Rattle.job_language.specs.Arguments.{PlacedCall, IsArgumentRead, column_answer, text_answer}
+use Rattle.job_language.specs.declared.operation.Param.TheVariants as param
+use Rattle.job_language.specs.Arguments.{PlacedCall, IsArgumentRead, IsReadBy, column_answer, key_answer, key_in}
 use Rattle.job_language.specs.Calls.{Call}
-use Rattle.job_language.specs.Causes.{Scope, early_causes, first_cause, goes_over_rows, inside_quotes, is_column as is_column_call, is_one_column, numbers_of, stage_cause}
+use Rattle.job_language.specs.Causes.{Scope, early_causes, first_cause, goes_over_rows, is_column as is_column_call, is_one_column, numbers_of, stage_cause}
 use Rattle.job_language.specs.Grammar.{Job, Piece, call, begin_concat, owner, comma, close, dot, semicolon, calls_of, piece_words, source_pieces}
 use Rattle.job_language.specs.Jobs.{AbstractJob, AbstractPlainSource, AbstractTerminal, values}
 use Rattle.job_language.specs.Rows.{AbstractCall, Argument, column, fallback, nothing, source, stage, terminal}
@@ -81,16 +82,21 @@ module _ (s : Scope) (bare : AreBare s.columns) (t : TokenizedText) where
   of_cells w (Some vs) ks a g e h is =
       sym (same_call (source (values vs)) g (of_argument a (column vs) ks g h is)) ∙ ap (λ (us : List ℤ). source (values us)) (bare_cells s.columns bare w vs e)
 
-  of_text : (o : Option (List ℕ)) (ks : List ℤ) (a : Argument) (g : AbstractCall) → text_answer s o ≡ Ok a → built_of operation.Column a ks ≡ Ok g → IsBareColumn g
-  of_text None ks a g h is = of_nothing ks g (of_argument a nothing ks g h is)
-  of_text (Some w) ks a g h is = of_cells (inside_quotes w) (cells_named (inside_quotes w) s.columns) ks a g refl h is
+  of_key : (o : Option (List ℕ)) (ks : List ℤ) (a : Argument) (g : AbstractCall) → key_answer s o ≡ Ok a → built_of operation.Column a ks ≡ Ok g → IsBareColumn g
+  of_key None ks a g h is = of_nothing ks g (of_argument a nothing ks g h is)
+  of_key (Some w) ks a g h is = of_cells w (cells_named w s.columns) ks a g refl h is
+
+  -- a column is read by its key, with decimal places and without
+  by_key : (b : Bool) (xs : List (List Word)) (bytes : List ℕ) (a : Argument) → IsReadBy (if b then param.Text else param.Places) s xs bytes (Ok a) → key_answer s (key_in xs) ≡ Ok a
+  by_key true xs bytes a h = h
+  by_key false xs bytes a h = h
 
   abbrev column_call : ℕ → List (List Word) → PlacedCall
   column_call opened parts = record { opened = opened; call = record { operation = operation.Column; parts = parts } }
 
   of_parts : (opened : ℕ) (parts : List (List Word)) (ks : List ℤ) (a : Argument) (g : AbstractCall) → IsArgumentRead s t (column_call opened parts) (Ok a) → built_of operation.Column a ks ≡ Ok g → IsBareColumn g
   of_parts opened [] ks a g h is = of_nothing ks g (of_argument a nothing ks g h is)
-  of_parts opened (p ∷ ps) ks a g h is = of_text _ ks a g h is
+  of_parts opened (p ∷ ps) ks a g h is = of_key (key_in (p ∷ ps)) ks a g (by_key (length ps == 0) (p ∷ ps) _ a h) is
 
   of_after : (o : Option Cause) (opened : ℕ) (parts : List (List Word)) (g : AbstractCall) → IsReadAfter o s t (column_call opened parts) (Ok g) → IsBareColumn g
   of_after (Some e) opened parts g h = absurd cc

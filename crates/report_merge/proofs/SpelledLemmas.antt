@@ -22,14 +22,14 @@ use Rattle.job_language.specs.declared.operation.Operation.{Operation}
 use Rattle.job_language.specs.declared.operation.Operation.TheVariants as operation
 use Rattle.job_language.specs.declared.operation.Param.{Param}
 use Rattle.job_language.specs.declared.operation.Param.TheVariants as param
-use Rattle.job_language.specs.Arguments.{PlacedCall, IsArgumentRead, IsLambdaRead, IsOperatorRead, IsOutcome, IsReadBy, after_names, argument_of, argument_text, column_answer, lambda_answer, last_param, last_part, listed, name_answer, named_causes, reads_cells, text_answer}
-use Rattle.job_language.specs.Causes.{Earlier, Scope, causes_of, early_causes, first_cause, goes_over_rows, inside_quotes, numbers_of, stage_cause}
+use Rattle.job_language.specs.Arguments.{PlacedCall, IsArgumentRead, IsLambdaRead, IsOperatorRead, IsOutcome, IsReadBy, after_names, argument_of, argument_text, column_answer, key_answer, key_in, lambda_answer, last_param, last_part, listed, name_answer, named_causes, reads_cells}
+use Rattle.job_language.specs.Causes.{Earlier, Scope, causes_of, early_causes, first_cause, goes_over_rows, numbers_of, stage_cause}
 use Rattle.job_language.specs.Files.{AreJobsLeft, AreJobsRead, IsNext, SpellsJobsWithin, scope_below}
 use Rattle.job_language.specs.Grammar.{IsJob, Job}
 use Rattle.job_language.specs.Jobs.{AbstractJob, AbstractJobStage, AbstractPlainSource, AbstractTerminal, values}
 use Rattle.job_language.specs.Operators.{is_add_exact, spelled_op}
 use Rattle.job_language.specs.Rows.{AbstractCall, Argument, column as column_cells, exact, fallback, nothing, source, stage, terminal}
-use Rattle.job_language.specs.Table.{built_of, name_in, role_of, string_in}
+use Rattle.job_language.specs.Table.{built_of, name_in, role_of}
 use Rattle.job_language.specs.Verdicts.{AreRead, BegunJob, IsInside, IsJobRead, IsNextCall, IsRead, IsReadAfter, IsReadInTurn, added, below_terminal, call_answer, earlier_of, finished_by, job_named, placed_calls, table_of}
 use Rattle.job_language.specs.Verdicts as verdict
 use Rattle.job_language.proofs.ShapeLemmas.{one_spelled}
@@ -138,20 +138,19 @@ module _ (version : ℕ) (rows : Bool) (earlier : List Earlier) where
     plain_with : (Read : List NamedColumn → Result Argument Cause → Type 0) (a : Argument) → ((ds : List NamedColumn) (b : Argument) → Read ds (Ok b) → b ≡ a) → ArgumentWith Read a
     plain_with Read a one = (plain_argument a, refl, λ ds h agrees b read. one ds b read)
 
-    text_with : (a : Argument) (o : Option (List ℕ)) → text_answer (scope_with columns) o ≡ Ok a → ArgumentWith (λ ds r. text_answer (scope_with ds) o ≡ r) a
-    text_with a None h = plain_with (λ ds r. text_answer (scope_with ds) None ≡ r) a (λ ds b k. same_ok (text_answer (scope_with ds) None) a b h k)
-    text_with a (Some w) h =
-        let name = inside_quotes w in
-        (column_argument name, column_same name columns g agree a (cells_named name columns) refl h, λ ds d agrees b k. column_same name ds d agrees b (cells_named name ds) refl k)
+    key_with : (a : Argument) (o : Option (List ℕ)) → key_answer (scope_with columns) o ≡ Ok a → ArgumentWith (λ ds r. key_answer (scope_with ds) o ≡ r) a
+    key_with a None h = plain_with (λ ds r. key_answer (scope_with ds) None ≡ r) a (λ ds b k. same_ok (key_answer (scope_with ds) None) a b h k)
+    key_with a (Some w) h = (column_argument w, column_same w columns g agree a (cells_named w columns) refl h, λ ds d agrees b k. column_same w ds d agrees b (cells_named w ds) refl k)
 
-    read_with : (p : Param) (ws : List Word) (bytes : List ℕ) (a : Argument) → IsReadBy p (scope_with columns) ws bytes (Ok a) → ArgumentWith (λ ds r. IsReadBy p (scope_with ds) ws bytes r) a
-    read_with param.Number ws bytes a h = plain_with (λ ds r. IsReadBy param.Number (scope_with ds) ws bytes r) a (λ ds b k. same_ok (Ok nothing) a b h k)
-    read_with param.Text ws bytes a h = text_with a (string_in ws) h
-    read_with param.Name ws bytes a h = plain_with (λ ds r. IsReadBy param.Name (scope_with ds) ws bytes r) a (λ ds b k. same_ok (name_answer (scope_with ds) (name_in ws)) a b (name_same ds columns (name_in ws) ∙ h) k)
-    read_with param.Long ws bytes a h = plain_with (λ ds r. IsReadBy param.Long (scope_with ds) ws bytes r) a (λ ds b k. one_lambda columns ds bytes want.Long a b h k)
-    read_with param.Bool ws bytes a h = plain_with (λ ds r. IsReadBy param.Bool (scope_with ds) ws bytes r) a (λ ds b k. one_lambda columns ds bytes want.Bool a b h k)
-    read_with param.Stream ws bytes a h = plain_with (λ ds r. IsReadBy param.Stream (scope_with ds) ws bytes r) a (λ ds b k. one_lambda columns ds bytes want.Stream a b h k)
-    read_with param.Operator ws bytes a h = plain_with (λ ds r. IsReadBy param.Operator (scope_with ds) ws bytes r) a (λ ds b k. one_operator columns ds (is_add_exact ws) (spelled_op ws) bytes a b h k)
+    read_with : (p : Param) (xs : List (List Word)) (bytes : List ℕ) (a : Argument) → IsReadBy p (scope_with columns) xs bytes (Ok a) → ArgumentWith (λ ds r. IsReadBy p (scope_with ds) xs bytes r) a
+    read_with param.Number xs bytes a h = plain_with (λ ds r. IsReadBy param.Number (scope_with ds) xs bytes r) a (λ ds b k. same_ok (Ok nothing) a b h k)
+    read_with param.Text xs bytes a h = key_with a (key_in xs) h
+    read_with param.Places xs bytes a h = key_with a (key_in xs) h
+    read_with param.Name xs bytes a h = plain_with (λ ds r. IsReadBy param.Name (scope_with ds) xs bytes r) a (λ ds b k. same_ok (name_answer (scope_with ds) (name_in (last_part xs))) a b (name_same ds columns (name_in (last_part xs)) ∙ h) k)
+    read_with param.Long xs bytes a h = plain_with (λ ds r. IsReadBy param.Long (scope_with ds) xs bytes r) a (λ ds b k. one_lambda columns ds bytes want.Long a b h k)
+    read_with param.Bool xs bytes a h = plain_with (λ ds r. IsReadBy param.Bool (scope_with ds) xs bytes r) a (λ ds b k. one_lambda columns ds bytes want.Bool a b h k)
+    read_with param.Stream xs bytes a h = plain_with (λ ds r. IsReadBy param.Stream (scope_with ds) xs bytes r) a (λ ds b k. one_lambda columns ds bytes want.Stream a b h k)
+    read_with param.Operator xs bytes a h = plain_with (λ ds r. IsReadBy param.Operator (scope_with ds) xs bytes r) a (λ ds b k. one_operator columns ds (is_add_exact (last_part xs)) (spelled_op (last_part xs)) bytes a b h k)
 
     -- a call
     abbrev CallWith : (List NamedColumn → Result AbstractCall Cause → Type 0) → AbstractCall → Type 0
@@ -178,7 +177,7 @@ module _ (version : ℕ) (rows : Bool) (earlier : List Earlier) where
       answer_with : (q : Result Argument Cause) (f : AbstractCall) → IsArgumentRead (scope_with columns) t c q → call_answer c.call.operation numbers q ≡ Ok f → CallWith (λ ds r. IsReadAfter None (scope_with ds) t c r) f
       answer_with (Err e) f read h = absurd cc
       answer_with (Ok a) f read h =
-          let k = read_with (last_param c.call.operation c.call.parts) (last_part c.call.parts) (argument_text t c).bytes a read in
+          let k = read_with (last_param c.call.operation c.call.parts) c.call.parts (argument_text t c).bytes a read in
           let m = built_with k.0 f (ap (λ (z : Argument). built_of c.call.operation z numbers) (sym k.1) ∙ h) in
           (m.0, m.1, λ ds d agrees b after. built_from ds d k.0 m.0 (k.2 ds d agrees) (m.2 d) after.0 b after.1 after.2)
 

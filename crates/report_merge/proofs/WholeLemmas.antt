@@ -12,7 +12,7 @@ use Rattle.job_meaning.specs.FileAnswers.{meaning_of}
 use Rattle.report_merge.specs.Cuts.{AreAnswered, IsAnswered, IsCut, IsOver, Row, all_rows, asked}
 use Rattle.report_merge.specs.Mergeable.{first_unmergeable}
 use Rattle.report_merge.specs.Merging.{Part, all_as_one, answers_beside, as_one, finished, first_part, merged, part_with, rows_in, with_fallbacks}
-use Rattle.report_merge.proofs.ColumnLemmas.{cells_at, cells_count, cells_joined, cells_under, kept_cells, kept_rows, table_columns}
+use Rattle.report_merge.proofs.ColumnLemmas.{cells_at, cells_count, cells_joined, cells_under, column_names, kept_rows, table_columns}
 use Rattle.report_merge.proofs.FileLemmas.{fallbacks_join, meanings_join}
 use Rattle.report_merge.proofs.JobLemmas.{AreJoined}
 use Rattle.report_merge.proofs.SpelledLemmas.{Agree, spelled_with}
@@ -30,7 +30,7 @@ not_many n m h = grind (arith, common_steps)
 -- the cells of a table with this header and these rows, which is read in this form
 abbrev cells_over : AbstractForm → Row → List Row → Cells
 cells_over form header rows =
-    let names = kept_cells form header header in
+    let names = column_names form header in
     record { named = cells_at names (kept_rows form header rows); table = columns_under names (kept_rows form header rows) }
 
 module _ (form : AbstractForm) (newest : ℕ) (bytes : List ℕ) (header : Row) (columns : List NamedColumn) (jobs : List WrittenJob)
@@ -171,7 +171,7 @@ module _ (form : AbstractForm) (newest : ℕ) (bytes : List ℕ) (over_header : 
 
   unique : (rows : List Row) (js : List AbstractJob) → IsOver form newest bytes header rows js → js ≡ all_filled (cells_over form header rows) written.0
   unique rows js h =
-      let names = kept_cells form header header in
+      let names = column_names form header in
       let kept = kept_rows form header rows in
       written.2 (columns_under names kept) (cells_over form header rows) (record { cells = cells_under names kept; table = refl }) js
       (subst (λ (columns : List NamedColumn). SpellsJobsWithin newest bytes columns js) (table_columns form header rows h.columns h.table) h.spelled)

@@ -3,6 +3,8 @@ ghost use Rattle.std.specs.Prelude.{◌≡◌, IfOk, length};
 ghost use Rattle.trace.specs.declared.item.End.TheVariants as end;
 
 use crate::batches::stage;
+use crate::decimal_jobs;
+use crate::lambdas::are_cells;
 use crate::messages::are_messages;
 use find_ops::{FindPart, FindTerminal, Finder, Found};
 use job_names::names_in;
@@ -85,11 +87,15 @@ fn are_named(alloc: Global, jobs: &[u8], names: &[&[u8]]) -> Result<bool, NoMemo
     )
 }
 
-/// Whether the names in jobs are what stands between quotes, also over lines, and none stand in a file with a fault.
+/// Whether the keys in jobs are what stands between quotes, also over lines, with the decimal places after it, and none
+/// stand in a file with a fault.
 fn are_names_found(alloc: Global) -> Result<bool, NoMemory> {
     let jobs = b"a = column(\"x y\").sum()\n# \"no\"\nb = \"\" \"p\n .q\" \"r";
+    let decimal =
+        b"a = column(\"x\", 2)\n .map(x -> cell(\"y\"\t, 18) + cell(\"z\", 19) + cell(\"z\", 0))";
     Ok(
         are_named(alloc, jobs, &[b"x y", b"", b"p  .q"])?
+            && are_named(alloc, decimal, &[b"x\"\x02", b"y\"\x12", b"z", b"z"])?
             && are_named(alloc, b".sum(\"x\")\nb = \"y\"", &[])?,
     )
 }
@@ -294,6 +300,8 @@ fn each_call_that_the_program_does_not_make_gives_its_value(rt: HostRuntime) -> 
     for (calls, are_right) in [
         ("texts, tokens, numbers", are_read(alloc)?),
         ("names in jobs", are_names_found(alloc)?),
+        ("cells", are_cells(alloc)),
+        ("columns in jobs", decimal_jobs::are_read(alloc)?),
         ("inner streams", are_inner(alloc)?),
         ("places of items", are_rows(alloc)?),
         ("items and values", are_walked(alloc)?),

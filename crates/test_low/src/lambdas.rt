@@ -1,6 +1,34 @@
 //! Texts that no job can hold as an argument, and how long and how deep a text may be.
-use lambda_expr::{ReadFault, Want, read_lambda};
+use lambda_expr::{ReadFault, Want, read_lambda, read_lambda_within};
+use lambda_values::Lambda;
 use std::alloc::{AllocError, Global};
+use stream_tokens::{CutText, cut};
+
+/// The lambda of a text that may have cells.
+fn with_cells(alloc: Global, text: &str) -> Result<Lambda, ReadFault> {
+    let tokens = cut(alloc, text.as_bytes())?;
+    let text = CutText::of(text.as_bytes(), &tokens);
+    read_lambda_within(alloc, &text, Want::Long, true)
+}
+
+/// Whether a text looks at one cell, of the column with this key.
+fn has_cell(alloc: Global, text: &str, key: &str) -> bool {
+    let Ok(lambda) = with_cells(alloc, text) else {
+        return false;
+    };
+    match lambda.cells(alloc) {
+        Ok(cells) => cells.len() == 1 && cells[0].as_slice() == key.as_bytes(),
+        Err(AllocError) => false,
+    }
+}
+
+/// Whether cells with decimal places and without are of the columns with these keys.
+pub(crate) fn are_cells(alloc: Global) -> bool {
+    has_cell(alloc, "x -> cell(\"a\")", "a")
+        && has_cell(alloc, "x -> cell(\"a\", 0)", "a")
+        && has_cell(alloc, "x -> cell(\"a\", 2) + x", "a\"\u{2}")
+        && has_cell(alloc, "x -> 2 * cell ( \"b c\" ,18 )", "b c\"\u{12}")
+}
 
 fn refusal(alloc: Global, text: &[u8]) -> Option<ReadFault> {
     read_lambda(alloc, text, Want::Long).err()
@@ -13,6 +41,26 @@ fn a_text_of_no_job_stops_at_the_first_token_that_no_lambda_goes_on_with(rt: Hos
         let found = refusal(rt.alloc(), text.as_bytes());
         assert!(rt; found == Some(ReadFault::Syntax { column }), "{text}");
     }
+    for (text, column) in [
+        ("x -> cell(\"a\", 19)", 16),
+        ("x -> cell(\"a\", -1)", 16),
+        ("x -> cell(\"a\", +1)", 16),
+        ("x -> cell(\"a\", )", 16),
+        ("x -> cell(\"a\", 02)", 16),
+        ("x -> cell(\"a\", 2L)", 16),
+        ("x -> cell(\"a\", 100)", 16),
+        ("x -> cell(\"a\", x)", 16),
+        ("x -> cell(\"a\", 2", 17),
+        ("x -> cell(\"a\", 2, 2)", 17),
+        ("x -> cell(\"a\", 2 + 1)", 18),
+        ("x -> cell(\"a\" 2)", 15),
+        ("x -> cell(2, \"a\")", 11),
+    ] {
+        let found = with_cells(rt.alloc(), text).err();
+        assert!(rt; found == Some(ReadFault::Syntax { column }), "{text}");
+    }
+    let found = refusal(rt.alloc(), b"x -> cell(\"a\", 2)");
+    assert!(rt; found == Some(ReadFault::Syntax { column: 10 }));
 }
 
 /// `front`, and then `middle` some times, with `)` once for each if they are parentheses.

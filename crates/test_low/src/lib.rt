@@ -7,10 +7,11 @@
 //! split, tasks that are dropped, run once or held.
 //!
 //! `calls.rt` has a call of each kind that the program doesn't make, from `stream_tokens` to `prefix_scan`, and calls
-//! `messages.rt`, in which faults become texts; `words.rt` calls `early_stop`. `lambdas.rt` is for `lambda_expr`,
-//! `walks.rt` for `trace`, `batches.rt` with `random.rt`, and `full_sinks.rt`, for `batch_eval`, `values.rt` for
-//! `job_meaning`, `splits.rt` for `spliterator`, `pieces.rt` and `readers.rt` for `columns`, `handles.rt` for `deques`;
-//! `sums.rt`, a small `Work` of one's own, `held_leaves.rt` and `small_works.rt` for `worker_pool`.
+//! `messages.rt`, in which faults become texts, and `decimal_jobs.rt`, for `job_language`; `words.rt` calls
+//! `early_stop`. `lambdas.rt` is for `lambda_expr`, `walks.rt` for `trace`, `batches.rt` with `random.rt`, and
+//! `full_sinks.rt`, for `batch_eval`, `values.rt` for `job_meaning`, `splits.rt` for `spliterator`, `pieces.rt` with
+//! `decimals.rt`, and `readers.rt`, for `columns`, `handles.rt` for `deques`; `sums.rt`, a small `Work` of one's own,
+//! `held_leaves.rt` and `small_works.rt` for `worker_pool`.
 //!
 //! Nothing stands on this crate, and it promises nothing.
 #![tactic(auto)]
@@ -19,6 +20,10 @@
 mod batches;
 #[cfg(test)]
 mod calls;
+#[cfg(test)]
+mod decimal_jobs;
+#[cfg(test)]
+mod decimals;
 #[cfg(test)]
 mod full_sinks;
 #[cfg(test)]

@@ -1,4 +1,5 @@
 //! Files read in pieces on threads. The values were worked out by hand; a cut of any size gives them.
+use crate::decimals::wrong_decimals;
 use columns::{ColumnFault, Columns, TableForm, read_columns, read_columns_as, read_columns_by};
 use counted_io::Counted;
 use run_settings::Separator;
@@ -43,7 +44,8 @@ fn form_of(
     }
     Ok(TableForm {
         separator,
-        names: if names.is_empty() { None } else { Some(wanted) },
+        is_all: names.is_empty(),
+        names: wanted,
         blank,
     })
 }
@@ -111,6 +113,8 @@ fn tables_are_read_as_they_are(rt: HostRuntime) -> Result<(), Fail> {
             "{file}"
         );
     }
+    let wrong = wrong_decimals(&rt, rt.alloc())?;
+    assert!(rt; wrong.is_none(), "{wrong:?}");
     Ok(())
 }
 

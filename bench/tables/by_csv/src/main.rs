@@ -1,6 +1,10 @@
-// The sums of columns qty and price by Rust's crate csv: by_csv FILE THREADS. Each thread has the rows between two line feeds, so
-// with several no cell may hold one.
-use std::{env, fs, thread};
+// The sums of columns qty and price by Rust's crate csv, on several threads by rayon: by_csv FILE THREADS. Then a part begins after
+// a line feed, so no cell may hold one.
+use rayon::prelude::*;
+use std::{env, fs};
+
+/// How many parts there are for each of several threads.
+const PARTS: usize = 16;
 
 /// The number of a cell, or the end of the program.
 fn number(cell: &[u8]) -> i64 {
@@ -27,16 +31,17 @@ fn main() {
     let header: Vec<&[u8]> = bytes[..first - 1].split(|byte| *byte == b',').collect();
     let places = ["qty", "price"].map(|name| header.iter().position(|it| *it == name.as_bytes()).unwrap());
     let rows = &bytes[first..];
-    let mut cuts = vec![0];
-    for part in 1..threads {
-        let from = rows.len() * part / threads;
-        cuts.push(from + rows[from..].iter().position(|byte| *byte == b'\n').unwrap() + 1);
+    let parts = if threads == 1 { 1 } else { PARTS * threads };
+    let mut cuts: Vec<usize> = (1..parts).map(|part| rows.len() * part / parts).collect();
+    for cut in &mut cuts {
+        *cut += rows[*cut..].iter().position(|byte| *byte == b'\n').unwrap() + 1;
     }
+    cuts.insert(0, 0);
     cuts.push(rows.len());
-    let parts: Vec<[i64; 2]> = thread::scope(|scope| {
-        let running: Vec<_> = cuts.windows(2).map(|cut| scope.spawn(move || sums(&rows[cut[0]..cut[1]], places))).collect();
-        running.into_iter().map(|part| part.join().unwrap()).collect()
+    let pool = rayon::ThreadPoolBuilder::new().num_threads(threads).build().unwrap();
+    let all = pool.install(|| {
+        let sums = cuts.par_windows(2).map(|cut| sums(&rows[cut[0]..cut[1]], places));
+        sums.reduce(|| [0; 2], |a, b| [a[0].wrapping_add(b[0]), a[1].wrapping_add(b[1])])
     });
-    let all = parts.iter().fold([0i64; 2], |all, part| [all[0].wrapping_add(part[0]), all[1].wrapping_add(part[1])]);
     println!("q = {}\np = {}", all[0], all[1]);
 }

@@ -1,12 +1,12 @@
 use Rattle.std.proofs.Common.{◌≡◌, ◌∙◌, [], Err, ap, length, map, rules, sym}
 use Rattle.std.proofs.lemmas.List.{length-map, places, with_items_is}
 use Rattle.csv.specs.Records.{fields_of}
-use Rattle.columns.specs.Layouts.{form_of, records_in}
+use Rattle.columns.specs.Layouts.{form_of, looks_in, places_in, records_in}
 use Rattle.columns.specs.Table.{columns_under}
-use Rattle.columns.specs.TableForms.{is_wanted, kept, table_by}
+use Rattle.columns.specs.TableForms.{kept_names, looks_of, table_by}
 use Rattle.tables.specs.TableOfColumns.{named}
 use Rattle.columns.proofs.FileLemmas.{first_record, no_record, table_bad, table_good, table_refused}
-use Rattle.columns.proofs.KeptLemmas.{length-kept}
+use Rattle.columns.proofs.KeptLemmas.{length-kept_names}
 use Rattle.columns.proofs.TableLemmas.{length_of_header}
 use Rattle.columns.proofs.by_records.columns_from.Goals as goal
 
@@ -19,7 +19,8 @@ pub columns_of_header-requires : goal.columns_of_header-requires
 columns_of_header-requires c =
     let form = form_of c.args.form.now in
     let header = fields_of c.next_record.new.row in
-    ap length (c.deref-2.ensures.value ∙ c.in_ok-layout.ensures.marks) ∙ length-map header (is_wanted form.names)
+    let looks = c.in_ok-layout.layout.looks.items in
+    ap length c.deref-2.ensures.value ∙ sym (length-map looks places_in) ∙ ap length c.in_ok-layout.ensures.looks ∙ length-map header (looks_of form)
 
 pub returns-in_err-columns-clause-tells : goal.returns-in_err-columns-clause-tells
 returns-in_err-columns-clause-tells c =
@@ -35,11 +36,11 @@ pub read_rows-requires-clause-width : goal.read_rows-requires-clause-width
 read_rows-requires-clause-width c =
     let form = form_of c.args.form.now in
     let header = fields_of c.next_record.new.row in
-    let marks = c.in_ok-layout.layout.marks.items in
-    let wide : length header ≡ length marks = sym (ap length c.in_ok-layout.ensures.marks ∙ length-map header (is_wanted form.names)) in
-    let empty : map named c.as_mut_slice.result.now ≡ columns_under (kept marks header) [] =
+    let looks = (looks_in c.in_ok-layout.layout) in
+    let wide : length header ≡ length looks = sym (ap length c.in_ok-layout.ensures.looks ∙ length-map header (looks_of form)) in
+    let empty : map named c.as_mut_slice.result.now ≡ columns_under (kept_names looks header) [] =
     ap (map named) c.as_mut_slice.ensures.value ∙ rw c.deref-2.ensures.value at c.in_ok-columns.ensures.ok in
-    sym (length_of_header c.as_mut_slice.result.now (kept marks header) empty ∙ length-kept marks header wide)
+    sym (length_of_header c.as_mut_slice.result.now (kept_names looks header) empty ∙ length-kept_names looks header wide)
 
 pub returns-in_err-read_rows-clause-tells : goal.returns-in_err-read_rows-clause-tells
 returns-in_err-read_rows-clause-tells c =
@@ -56,10 +57,10 @@ returns-clause-tells c =
     let form = form_of c.args.form.now in
     let s = (form_of c.args.form.now).separator in
     let header = fields_of c.next_record.new.row in
-    let marks = c.in_ok-layout.layout.marks.items in
+    let looks = (looks_in c.in_ok-layout.layout) in
     let (rows, split, reading) = first_record s c.args.bytes.now _ _ _ (c.in_ok-next_record.ensures.gave (records_in s c.args.bytes.now) c.requires) c.if-not-branch.false in
     let fits = rw c.deref-2.ensures.value at c.in_ok-columns.ensures.fits in
-    let empty : map named c.as_mut_slice.result.now ≡ columns_under (kept marks header) [] =
+    let empty : map named c.as_mut_slice.result.now ≡ columns_under (kept_names looks header) [] =
     ap (map named) c.as_mut_slice.ensures.value ∙ rw c.deref-2.ensures.value at c.in_ok-columns.ensures.ok in
     let (good, under) = c.in_ok-read_rows.ensures.rows rows reading in
     let whole = with_items_is c.in_ok-columns.columns c.read_rows.new.columns (search (rules, places)) in

@@ -1,12 +1,12 @@
 use Rattle.std.proofs.Common.{◌≡◌, ◌<◌, ◌∙◌, ap, arith, length, rules, sym}
 use Rattle.std.proofs.lemmas.List.{length-map}
 use Rattle.csv.specs.Records.{fields_of}
-use Rattle.columns.specs.Layouts.{form_of, records_in}
-use Rattle.columns.specs.TableForms.{is_wanted, kept}
-use Rattle.columns.specs.TextRows.{marked}
+use Rattle.columns.specs.Layouts.{form_of, looks_in, records_in}
+use Rattle.columns.specs.TableForms.{kept_names, looks_of}
+use Rattle.columns.specs.TextRows.{look_count}
 use Rattle.columns.proofs.FileLemmas.{first_record}
 use Rattle.columns.proofs.FrontLemmas.{HaveRows-under, IsFront-header}
-use Rattle.columns.proofs.KeptLemmas.{length-kept, marked-length}
+use Rattle.columns.proofs.KeptLemmas.{length-kept_names, some_look}
 use Rattle.columns.proofs.Separators.{separates}
 use Rattle.columns.proofs.TableLemmas.{length_of_header}
 use Rattle.columns.proofs.header.plain_header_from.Goals as goal
@@ -25,23 +25,23 @@ pub returns-clause-fits : goal.returns-clause-fits
 returns-clause-fits c =
     let form = form_of c.args.form.now in
     let l = c.in_ok-columns.layout in
-    let marks = l.marks.items in
+    let looks = looks_in l in
     let header = fields_of c.next_record.new.row in
     let is = c.in_ok-columns.ensures.layout in
     let columns = c.in_ok-columns.columns.items in
-    let long : length header ≡ length marks = sym (ap length is.marks ∙ length-map header (is_wanted form.names)) in
-    let wide : marked marks ≡ length columns = sym (length_of_header columns (kept marks header) c.in_ok-columns.ensures.under ∙ length-kept marks header long) in
+    let long : length header ≡ length looks = sym (ap length is.looks ∙ length-map header (looks_of form)) in
+    let wide : look_count looks ≡ length columns = sym (length_of_header columns (kept_names looks header) c.in_ok-columns.ensures.under ∙ length-kept_names looks header long) in
     let some : 0 < length columns = search rules in
     record {
       separator = rw is.separator (separates c.args.form.now.separator);
-      some_cell = omega (arith, some, wide, marked-length marks);
+      some_cell = omega (arith, some, wide, some_look looks);
       some_column = some;
       wide = wide;
     }
 
 pub returns-clause-empty : goal.returns-clause-empty
 returns-clause-empty c =
-    rw c.in_ok-columns.ensures.under (HaveRows-under (kept c.in_ok-columns.layout.marks.items (fields_of c.next_record.new.row)))
+    rw c.in_ok-columns.ensures.under (HaveRows-under (kept_names (looks_in c.in_ok-columns.layout) (fields_of c.next_record.new.row)))
 
 pub header_end-requires : goal.header_end-requires
 header_end-requires c = rw c.byte.ensures (separates c.args.form.now.separator)

@@ -1,30 +1,32 @@
-use Rattle.std.proofs.Common.{◌≡◌, ◌∙◌, ◌<◌, ◌∷◌, ◌++◌, [], false, get_or, length, map, refl, rules, sym, take, true}
-use Rattle.std.proofs.lemmas.List.{map_push}
+use Rattle.std.proofs.Common.{◌≡◌, ◌<◌, ◌∙◌, ◌+◌, ◌++◌, [], ap, arith, get_or, length, map, sym, take}
+use Rattle.std.proofs.lemmas.List.{get_or-map, length-map, take-map}
 use Rattle.csv.specs.Records.{fields_of}
+use Rattle.job_names.specs.ColumnKeys.{key_of}
+use Rattle.columns.specs.Layouts.{places_in}
 use Rattle.columns.specs.Table.{columns_under}
-use Rattle.columns.specs.TableForms.{kept}
+use Rattle.columns.specs.TableForms.{kept_names}
 use Rattle.tables.specs.TableOfColumns.{named}
-use Rattle.columns.proofs.KeptLemmas.{kept_up}
+use Rattle.columns.proofs.KeptLemmas.{kept_names_up}
 use Rattle.columns.proofs.RowLemmas.{columns_under-append}
-use Rattle.columns.proofs.rows.columns_named.Goals.{then-marks-place+in_ok-from_slice+in_ok-with_capacity+in_ok-push, else-marks-place}
 use Rattle.columns.proofs.rows.columns_named.Goals as goal
 
 pub loop-place-preserved : goal.loop-place-preserved
 loop-place-preserved c =
     let fields = fields_of c.args.header.now in
-    let marks = c.args.marks.now in
+    let items = c.args.looks.now in
+    let looks = map places_in items in
     let place = c.loop-place.place in
-    let room : place < length marks = search rules in
-    let wide : length fields ≡ length marks = sym c.requires in
-    elim c.if-marks-place.branch [
-      | then-marks-place+in_ok-from_slice+in_ok-with_capacity+in_ok-push w ↦
-          let is : get_or marks place false ≡ true = search rules in
-          let name = get_or fields place [] in
-          let so_far : map named c.loop-place.columns.items ≡ columns_under (kept (take place marks) (take place fields)) [] = c.loop-place.invariant in
-          let columns : map named w.push.new.self.items ≡ columns_under (kept (take place marks) (take place fields)) [] ++ record { name = name; cells = [] } ∷ [] =
-          rw (w.in_ok-push.ensures.items, map_push named, so_far, w.in_ok-from_slice.ensures.items, w.name_at.ensures, w.in_ok-with_capacity.ensures.items) refl in
-          rw (w.columns-is, kept_up marks fields place true wide room is) (columns ∙ sym (columns_under-append (kept (take place marks) (take place fields)) name))
-      | else-marks-place w ↦
-          let is : get_or marks place false ≡ false = search rules in
-          rw (w.columns-is, kept_up marks fields place false wide room is) c.loop-place.invariant
-    ]
+    let look = c.index-looks-place.result in
+    let m = places_in look in
+    let name = get_or fields place [] in
+    let room : place < length items = c.loop-place-test.true in
+    let wide : length fields ≡ length looks = sym (length-map items places_in ∙ c.requires) in
+    let is : get_or looks place [] ≡ m = get_or-map places_in items place look [] room ∙ ap places_in (sym c.index-looks-place.is) in
+    let added : map named c.add_columns.new.columns.items ≡ map named c.loop-place.columns.items ++ columns_under (map (key_of name) m) [] =
+    rw (c.field_in-name.ensures, c.places.ensures) at c.in_ok-add_columns.ensures in
+    let front = kept_names (map places_in (take place items)) (take place fields) in
+    let up : front ++ map (key_of name) m ≡ kept_names (map places_in (take (place + 1) items)) (take (place + 1) fields) =
+    ap (λ l. kept_names l (take place fields) ++ map (key_of name) m) (sym (take-map places_in place items))
+    ∙ sym (kept_names_up looks fields place m wide (omega (arith, room, length-map items places_in)) is)
+    ∙ ap (λ l. kept_names l (take (place + 1) fields)) (take-map places_in (place + 1) items) in
+    added ∙ ap (λ l. l ++ columns_under (map (key_of name) m) []) c.loop-place.invariant ∙ sym (columns_under-append front (map (key_of name) m)) ∙ ap (λ l. columns_under l []) up

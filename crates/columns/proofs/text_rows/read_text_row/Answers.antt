@@ -1,12 +1,13 @@
-use Rattle.std.proofs.Common.{None, ◌≡◌, ◌<◌, ◌+◌, ◌-◌, ◌∙◌, ap, arith, false, true, get_or, length, map, refl, rules, sym}
+use Rattle.std.proofs.Common.{◌≡◌, ◌<◌, ◌≤◌, ◌+◌, ◌-◌, ◌∙◌, [], ℕ, List, ap, arith, drop, get_or, length, map, refl, rules, sym}
 use Rattle.std.proofs.lemmas.List.{length-map}
+use Rattle.tables.specs.Table.{NamedColumn}
 use Rattle.tables.specs.TableOfColumns.{named}
-use Rattle.columns.specs.TextRows.{cut_to, marked}
+use Rattle.columns.specs.Layouts.{places_in}
+use Rattle.columns.specs.TextRows.{HaveRows, IsBegun, look_count}
+use Rattle.columns.proofs.KeptLemmas.{look_count_up}
+use Rattle.columns.proofs.LookLemmas.{cell_room, column_room, if_none, look_is, named_put, named_tail, tail_room}
 use Rattle.columns.proofs.NumberLemmas.{both_some}
-use Rattle.columns.proofs.TextLemmas.{both_none}
-use Rattle.columns.proofs.KeptLemmas.{marked_room, marked_up}
-use Rattle.columns.proofs.TextRowLemmas.{AreCellsIn-none, AreCellsIn-number, AreCellsIn-text, IsBegun-more, IsBegun-none, IsRowIn-number, IsRowIn-text, set_same}
-use Rattle.columns.proofs.text_rows.read_text_row.Goals.{then-marks-place+in_ok-next, else-marks-place+in_ok-next-2}
+use Rattle.columns.proofs.TextRowLemmas.{AreCellsIn-cell, AreCellsIn-none, IsBegun-join, IsBegun-none, IsRowIn-cell}
 use Rattle.columns.proofs.text_rows.read_text_row.Goals as goal
 
 pub loop-place-init : goal.loop-place-init
@@ -18,156 +19,218 @@ loop-place-init c = (
   λ n h. IsBegun-none n _ h,
 )
 
-pub bounds-columns-column : goal.bounds-columns-column
-bounds-columns-column c =
-    let marks = c.as_slice-marks.result.now in
-    let place = c.loop-place.place in
-    let (low, high, which, so_far, begun) = c.loop-place.invariant in
-    let room : place < length marks = search rules in
-    let is : get_or marks place false ≡ true = search rules in
-    let width : marked marks ≡ length c.args.columns.now = search rules in
-    omega (arith, marked_room marks place room is, which, width, c.loop-place.auto.columns)
-
-pub loop-place-preserved : goal.loop-place-preserved
-loop-place-preserved c =
-    let marks = c.as_slice-marks.result.now in
-    let place = c.loop-place.place in
-    let (low, high, which, so_far, begun) = c.loop-place.invariant in
-    let room : place < length marks = search rules in
-    elim c.if-marks-place.branch [
-      | then-marks-place+in_ok-next w ↦
-          let is : get_or marks place false ≡ true = search rules in
-          let width : marked marks ≡ length c.args.columns.now = search rules in
-          let within : c.loop-place.column < length c.loop-place.columns = omega (arith, marked_room marks place room is, which, width, c.loop-place.auto.columns) in
-          let (n, there, grown) = w.in_ok-next.ensures.read in
-          rw (w.columns-is, w.next-is, w.column-is) (
-            omega (arith, low, w.in_ok-next.ensures.on.0),
-            w.in_ok-next.ensures.on.1,
-            omega (arith, which, marked_up marks place true room is),
-            AreCellsIn-number _ _ marks _ _ _ c.loop-place.columns _ place c.loop-place.column w.index-columns-column.result w.put_number.new.column n room is which within so_far there
-                w.index-columns-column.is (rw (sym w.index-columns-column.is) at grown),
-            λ m h. IsBegun-more m _ c.loop-place.columns c.loop-place.column w.index-columns-column.result w.put_number.new.column n h (begun m h) within
-                w.index-columns-column.is (rw (sym w.index-columns-column.is) at grown),
-          )
-      | else-marks-place+in_ok-next-2 w ↦
-          let is : get_or marks place false ≡ false = search rules in
-          rw (w.columns-is, w.next-is, w.column-is) (
-            omega (arith, low, w.in_ok-next-2.ensures.on.0),
-            w.in_ok-next-2.ensures.on.1,
-            omega (arith, which, marked_up marks place false room is),
-            AreCellsIn-text _ _ marks _ _ _ _ _ place room is so_far w.in_ok-next-2.ensures.read,
-            begun,
-          )
-    ]
-
 pub offset_bounds-columns-column : goal.offset_bounds-columns-column
 offset_bounds-columns-column c =
-    let marks = c.as_slice-marks.result.now in
+    let items = c.as_slice-looks.result.now in
+    let looks = map places_in items in
     let place = c.loop-place.place in
+    let column = c.loop-place.column in
+    let columns = c.loop-place.columns in
     let (low, high, which, so_far, begun) = c.loop-place.invariant in
-    let room : place < length marks = search rules in
-    let is : get_or marks place false ≡ true = search rules in
-    let width : marked marks ≡ length c.args.columns.now = search rules in
-    let within : c.loop-place.column < length c.loop-place.columns = omega (arith, marked_room marks place room is, which, width, c.loop-place.auto.columns) in
+    let whole : items ≡ c.args.layout.now.looks.items = search rules in
+    let all : look_count looks ≡ length columns = ap (λ l. look_count (map places_in l)) whole ∙ c.requires.fits.wide ∙ sym c.loop-place.auto.columns in
+    let within : column ≤ length columns = column_room items place column (length columns) which all in
     search (rules, within)
+
+pub slice_bounds-put_cell_at-count : goal.slice_bounds-put_cell_at-count
+slice_bounds-put_cell_at-count c =
+    let items = c.as_slice-looks.result.now in
+    let looks = map places_in items in
+    let place = c.loop-place.place in
+    let column = c.loop-place.column in
+    let columns = c.loop-place.columns in
+    let (low, high, which, so_far, begun) = c.loop-place.invariant in
+    let whole : items ≡ c.args.layout.now.looks.items = search rules in
+    let all : look_count looks ≡ length columns = ap (λ l. look_count (map places_in l)) whole ∙ c.requires.fits.wide ∙ sym c.loop-place.auto.columns in
+    let within : column ≤ length columns = column_room items place column (length columns) which all in
+    within
+
+pub slice_bounds-put_cell_at-start : goal.slice_bounds-put_cell_at-start
+slice_bounds-put_cell_at-start c =
+    let items = c.as_slice-looks.result.now in
+    let looks = map places_in items in
+    let place = c.loop-place.place in
+    let column = c.loop-place.column in
+    let columns = c.loop-place.columns in
+    let (low, high, which, so_far, begun) = c.loop-place.invariant in
+    let whole : items ≡ c.args.layout.now.looks.items = search rules in
+    let all : look_count looks ≡ length columns = ap (λ l. look_count (map places_in l)) whole ∙ c.requires.fits.wide ∙ sym c.loop-place.auto.columns in
+    let within : column ≤ length columns = column_room items place column (length columns) which all in
+    search (rules, within)
+
+pub offset_bounds-columns-column-2 : goal.offset_bounds-columns-column-2
+offset_bounds-columns-column-2 c =
+    let items = c.as_slice-looks.result.now in
+    let looks = map places_in items in
+    let place = c.loop-place.place in
+    let column = c.loop-place.column in
+    let columns = c.loop-place.columns in
+    let (low, high, which, so_far, begun) = c.loop-place.invariant in
+    let whole : items ≡ c.args.layout.now.looks.items = search rules in
+    let all : look_count looks ≡ length columns = ap (λ l. look_count (map places_in l)) whole ∙ c.requires.fits.wide ∙ sym c.loop-place.auto.columns in
+    let within : column ≤ length columns = column_room items place column (length columns) which all in
+    search (rules, within)
+
+pub slice_bounds-put_cell_at-count-2 : goal.slice_bounds-put_cell_at-count-2
+slice_bounds-put_cell_at-count-2 c =
+    let items = c.as_slice-looks.result.now in
+    let looks = map places_in items in
+    let place = c.loop-place.place in
+    let column = c.loop-place.column in
+    let columns = c.loop-place.columns in
+    let (low, high, which, so_far, begun) = c.loop-place.invariant in
+    let whole : items ≡ c.args.layout.now.looks.items = search rules in
+    let all : look_count looks ≡ length columns = ap (λ l. look_count (map places_in l)) whole ∙ c.requires.fits.wide ∙ sym c.loop-place.auto.columns in
+    let within : column ≤ length columns = column_room items place column (length columns) which all in
+    within
+
+pub slice_bounds-put_cell_at-start-2 : goal.slice_bounds-put_cell_at-start-2
+slice_bounds-put_cell_at-start-2 c =
+    let items = c.as_slice-looks.result.now in
+    let looks = map places_in items in
+    let place = c.loop-place.place in
+    let column = c.loop-place.column in
+    let columns = c.loop-place.columns in
+    let (low, high, which, so_far, begun) = c.loop-place.invariant in
+    let whole : items ≡ c.args.layout.now.looks.items = search rules in
+    let all : look_count looks ≡ length columns = ap (λ l. look_count (map places_in l)) whole ∙ c.requires.fits.wide ∙ sym c.loop-place.auto.columns in
+    let within : column ≤ length columns = column_room items place column (length columns) which all in
+    search (rules, within)
+
+pub put_cell_at-requires-clause-room : goal.put_cell_at-requires-clause-room
+put_cell_at-requires-clause-room c =
+    let items = c.as_slice-looks.result.now in
+    let looks = map places_in items in
+    let place = c.loop-place.place in
+    let column = c.loop-place.column in
+    let columns = c.loop-place.columns in
+    let (low, high, which, so_far, begun) = c.loop-place.invariant in
+    let whole : items ≡ c.args.layout.now.looks.items = search rules in
+    let all : look_count looks ≡ length columns = ap (λ l. look_count (map places_in l)) whole ∙ c.requires.fits.wide ∙ sym c.loop-place.auto.columns in
+    let within : column ≤ length columns = column_room items place column (length columns) which all in
+    let look = c.index-looks-place.result in
+    let room : place < length items = omega (arith, c.loop-place-test.true) in
+    tail_room columns column (length (places_in look)) (cell_room items place column (length columns) look which all room c.index-looks-place.is)
+
+pub put_cell_at-requires-2-clause-room : goal.put_cell_at-requires-2-clause-room
+put_cell_at-requires-2-clause-room c =
+    let items = c.as_slice-looks.result.now in
+    let looks = map places_in items in
+    let place = c.loop-place.place in
+    let column = c.loop-place.column in
+    let columns = c.loop-place.columns in
+    let (low, high, which, so_far, begun) = c.loop-place.invariant in
+    let whole : items ≡ c.args.layout.now.looks.items = search rules in
+    let all : look_count looks ≡ length columns = ap (λ l. look_count (map places_in l)) whole ∙ c.requires.fits.wide ∙ sym c.loop-place.auto.columns in
+    let within : column ≤ length columns = column_room items place column (length columns) which all in
+    let look = c.index-looks-last.result in
+    let long : length items ≡ place + 1 = omega (arith, c.loop-place-test.false, c.loop-place.auto.place-end, c.requires.fits.some_cell, ap length whole, length-map c.args.layout.now.looks.items places_in) in
+    let room : place < length items = omega (arith, long) in
+    let last : length items - 1 ≡ place = omega (arith, long) in
+    let here = rw last at c.index-looks-last.is in
+    tail_room columns column (length (places_in look)) (cell_room items place column (length columns) look which all room here)
 
 pub overflow_add-column : goal.overflow_add-column
 overflow_add-column c =
-    let marks = c.as_slice-marks.result.now in
+    let items = c.as_slice-looks.result.now in
+    let looks = map places_in items in
     let place = c.loop-place.place in
+    let column = c.loop-place.column in
+    let columns = c.loop-place.columns in
     let (low, high, which, so_far, begun) = c.loop-place.invariant in
-    let room : place < length marks = search rules in
-    let is : get_or marks place false ≡ true = search rules in
-    let width : marked marks ≡ length c.args.columns.now = search rules in
-    let within : c.loop-place.column < length c.loop-place.columns = omega (arith, marked_room marks place room is, which, width, c.loop-place.auto.columns) in
-    search (rules, within)
+    let whole : items ≡ c.args.layout.now.looks.items = search rules in
+    let all : look_count looks ≡ length columns = ap (λ l. look_count (map places_in l)) whole ∙ c.requires.fits.wide ∙ sym c.loop-place.auto.columns in
+    let within : column ≤ length columns = column_room items place column (length columns) which all in
+    let look = c.index-looks-place.result in
+    let room : place < length items = omega (arith, c.loop-place-test.true) in
+    let fits : column + length (places_in look) ≤ length columns = cell_room items place column (length columns) look which all room c.index-looks-place.is in
+    let more : column + length c.places.result.now ≤ length columns = rw c.places.ensures fits in
+    search (rules, more)
 
 pub returns-in_err-next-clause-begun : goal.returns-in_err-next-clause-begun
 returns-in_err-next-clause-begun c =
-    let marks = c.as_slice-marks.result.now in
+    let items = c.as_slice-looks.result.now in
+    let looks = map places_in items in
     let place = c.loop-place.place in
+    let column = c.loop-place.column in
+    let columns = c.loop-place.columns in
     let (low, high, which, so_far, begun) = c.loop-place.invariant in
-    let room : place < length marks = search rules in
-    let is : get_or marks place false ≡ true = search rules in
-    let width : marked marks ≡ length c.args.columns.now = search rules in
-    let within : c.loop-place.column < length c.loop-place.columns = omega (arith, marked_room marks place room is, which, width, c.loop-place.auto.columns) in
-    let none : c.from_residual.result ≡ None = search rules in
-    let kept = rw (sym c.index-columns-column.is) at c.in_err-next.ensures.kept in
-    rw none (λ n h. ap (map (cut_to n)) (set_same c.loop-place.columns c.loop-place.column c.index-columns-column.result c.put_number.new.column within c.index-columns-column.is kept) ∙ begun n h)
+    let whole : items ≡ c.args.layout.now.looks.items = search rules in
+    let all : look_count looks ≡ length columns = ap (λ l. look_count (map places_in l)) whole ∙ c.requires.fits.wide ∙ sym c.loop-place.auto.columns in
+    let within : column ≤ length columns = column_room items place column (length columns) which all in
+    let new = c.put_cell_at.new.columns in
+    let go : (n : ℕ) (first : List NamedColumn) → HaveRows n first → IsBegun n first (drop column (map named columns)) → IsBegun n first (map named new) =
+    rw (named_tail column columns) at c.in_err-next.ensures.begun in
+    if_none c.from_residual.result (λ n h. rw (named_put column columns new within) (IsBegun-join n column _ (map named columns) (map named new) h (begun n h) go))
 
-pub returns-else-marks-last-clause-read : goal.returns-else-marks-last-clause-read
-returns-else-marks-last-clause-read c =
-    let marks = c.as_slice-marks.result.now in
+pub loop-place-preserved : goal.loop-place-preserved
+loop-place-preserved c =
+    let items = c.as_slice-looks.result.now in
+    let looks = map places_in items in
     let place = c.loop-place.place in
+    let column = c.loop-place.column in
+    let columns = c.loop-place.columns in
     let (low, high, which, so_far, begun) = c.loop-place.invariant in
-    let whole : marks ≡ c.args.layout.now.marks.items = search rules in
-    let long : length marks ≡ place + 1 = omega (arith, c.loop-place-test.false, c.loop-place.auto.place-end, c.requires.fits.some_cell, ap length whole) in
-    let last : place ≡ length marks - 1 = omega (arith, long) in
-    let is : get_or marks place false ≡ false = rw last (search rules) in
-    let width : marked marks ≡ length (map named c.loop-place.columns) = rw (length-map c.loop-place.columns named, c.loop-place.auto.columns) (search rules) in
-    let read = c.pass_cell-else-marks-last.ensures.read in
-    both_some _ _ _ c.pass_cell-else-marks-last.result read read (λ next there same.
-    rw (sym whole) (IsRowIn-text _ _ marks _ _ _ _ _ place long is width so_far there))
+    let whole : items ≡ c.args.layout.now.looks.items = search rules in
+    let all : look_count looks ≡ length columns = ap (λ l. look_count (map places_in l)) whole ∙ c.requires.fits.wide ∙ sym c.loop-place.auto.columns in
+    let within : column ≤ length columns = column_room items place column (length columns) which all in
+    let look = c.index-looks-place.result in
+    let room : place < length items = omega (arith, c.loop-place-test.true) in
+    let new = c.put_cell_at.new.columns in
+    let next = c.in_ok-next.ensures in
+    let m = places_in look in
+    let in_looks : place < length looks = omega (arith, room, length-map items places_in) in
+    let is : get_or looks place [] ≡ m = look_is items place look room c.index-looks-place.is in
+    let go : (n : ℕ) (first : List NamedColumn) → HaveRows n first → IsBegun n first (drop column (map named columns)) → IsBegun n first (map named new) =
+    rw (named_tail column columns) at next.begun in
+    let there = rw (named_tail column columns) at next.read in
+    let in_columns : column ≤ length (map named columns) = omega (arith, within, length-map columns named) in (
+      omega (arith, low, next.on.0),
+      next.on.1,
+      omega (arith, which, ap length c.places.ensures, look_count_up looks place m in_looks is),
+      rw (named_put column columns new within) (AreCellsIn-cell _ _ looks _ _ _ (map named columns) _ (map named new) place column m in_looks is which in_columns so_far there),
+      λ n h. rw (named_put column columns new within) (IsBegun-join n column _ (map named columns) (map named new) h (begun n h) go),
+    )
 
-pub offset_bounds-columns-column-then-marks-last : goal.offset_bounds-columns-column-then-marks-last
-offset_bounds-columns-column-then-marks-last c =
-    let marks = c.as_slice-marks.result.now in
+pub returns-clause-read : goal.returns-clause-read
+returns-clause-read c =
+    let items = c.as_slice-looks.result.now in
+    let looks = map places_in items in
     let place = c.loop-place.place in
+    let column = c.loop-place.column in
+    let columns = c.loop-place.columns in
     let (low, high, which, so_far, begun) = c.loop-place.invariant in
-    let whole : marks ≡ c.args.layout.now.marks.items = search rules in
-    let long : length marks ≡ place + 1 = omega (arith, c.loop-place-test.false, c.loop-place.auto.place-end, c.requires.fits.some_cell, ap length whole) in
-    let last : place ≡ length marks - 1 = omega (arith, long) in
-    let is : get_or marks place false ≡ true = rw last (search rules) in
-    let width : marked marks ≡ length c.args.columns.now = search rules in
-    let room : place < length marks = omega (arith, long) in
-    let within : c.loop-place.column < length c.loop-place.columns = omega (arith, marked_room marks place room is, which, width, c.loop-place.auto.columns) in
-    search (rules, within)
+    let whole : items ≡ c.args.layout.now.looks.items = search rules in
+    let all : look_count looks ≡ length columns = ap (λ l. look_count (map places_in l)) whole ∙ c.requires.fits.wide ∙ sym c.loop-place.auto.columns in
+    let within : column ≤ length columns = column_room items place column (length columns) which all in
+    let look = c.index-looks-last.result in
+    let long : length items ≡ place + 1 = omega (arith, c.loop-place-test.false, c.loop-place.auto.place-end, c.requires.fits.some_cell, ap length whole, length-map c.args.layout.now.looks.items places_in) in
+    let room : place < length items = omega (arith, long) in
+    let last : length items - 1 ≡ place = omega (arith, long) in
+    let here = rw last at c.index-looks-last.is in
+    let new = c.put_cell_at-2.new.columns in
+    let m = places_in look in
+    let is : get_or looks place [] ≡ m = look_is items place look room here in
+    let count : length looks ≡ place + 1 = length-map items places_in ∙ long in
+    let width : look_count looks ≡ length (map named columns) = all ∙ sym (length-map columns named) in
+    let same : length (map named new) ≡ length (drop column (map named columns)) =
+    length-map new named ∙ c.put_cell_at-2.auto.columns ∙ sym (length-map _ named) ∙ ap length (named_tail column columns) in
+    let read = rw (named_tail column columns) at c.put_cell_at-2.ensures.read in
+    both_some _ _ _ c.put_cell_at-2.result read read (λ next there same_there.
+    rw (sym whole, named_put column columns new within) (IsRowIn-cell _ _ looks _ _ _ (map named columns) _ (map named new) place column m count is which width same so_far there))
 
-pub bounds-columns-column-then-marks-last : goal.bounds-columns-column-then-marks-last
-bounds-columns-column-then-marks-last c =
-    let marks = c.as_slice-marks.result.now in
+pub returns-clause-begun : goal.returns-clause-begun
+returns-clause-begun c =
+    let items = c.as_slice-looks.result.now in
+    let looks = map places_in items in
     let place = c.loop-place.place in
+    let column = c.loop-place.column in
+    let columns = c.loop-place.columns in
     let (low, high, which, so_far, begun) = c.loop-place.invariant in
-    let whole : marks ≡ c.args.layout.now.marks.items = search rules in
-    let long : length marks ≡ place + 1 = omega (arith, c.loop-place-test.false, c.loop-place.auto.place-end, c.requires.fits.some_cell, ap length whole) in
-    let last : place ≡ length marks - 1 = omega (arith, long) in
-    let is : get_or marks place false ≡ true = rw last (search rules) in
-    let width : marked marks ≡ length c.args.columns.now = search rules in
-    let room : place < length marks = omega (arith, long) in
-    let within : c.loop-place.column < length c.loop-place.columns = omega (arith, marked_room marks place room is, which, width, c.loop-place.auto.columns) in
-    within
-
-pub returns-then-marks-last-clause-read : goal.returns-then-marks-last-clause-read
-returns-then-marks-last-clause-read c =
-    let marks = c.as_slice-marks.result.now in
-    let place = c.loop-place.place in
-    let (low, high, which, so_far, begun) = c.loop-place.invariant in
-    let whole : marks ≡ c.args.layout.now.marks.items = search rules in
-    let long : length marks ≡ place + 1 = omega (arith, c.loop-place-test.false, c.loop-place.auto.place-end, c.requires.fits.some_cell, ap length whole) in
-    let last : place ≡ length marks - 1 = omega (arith, long) in
-    let is : get_or marks place false ≡ true = rw last (search rules) in
-    let width : marked marks ≡ length c.args.columns.now = search rules in
-    let room : place < length marks = omega (arith, long) in
-    let within : c.loop-place.column < length c.loop-place.columns = omega (arith, marked_room marks place room is, which, width, c.loop-place.auto.columns) in
-    let all : marked marks ≡ length c.loop-place.columns = omega (arith, width, c.loop-place.auto.columns) in
-    let read = c.put_number-then-marks-last.ensures.read in
-    both_some _ _ _ c.put_number-then-marks-last.result read read (λ next put same.
-    let (n, there, grown) = put in
-    rw (sym whole) (IsRowIn-number _ _ marks _ _ _ c.loop-place.columns _ place c.loop-place.column c.index-columns-column-then-marks-last.result c.put_number-then-marks-last.new.column n long is which all so_far there
-    c.index-columns-column-then-marks-last.is (rw (sym c.index-columns-column-then-marks-last.is) at grown)))
-
-pub returns-then-marks-last-clause-begun : goal.returns-then-marks-last-clause-begun
-returns-then-marks-last-clause-begun c =
-    let marks = c.as_slice-marks.result.now in
-    let place = c.loop-place.place in
-    let (low, high, which, so_far, begun) = c.loop-place.invariant in
-    let whole : marks ≡ c.args.layout.now.marks.items = search rules in
-    let long : length marks ≡ place + 1 = omega (arith, c.loop-place-test.false, c.loop-place.auto.place-end, c.requires.fits.some_cell, ap length whole) in
-    let last : place ≡ length marks - 1 = omega (arith, long) in
-    let is : get_or marks place false ≡ true = rw last (search rules) in
-    let width : marked marks ≡ length c.args.columns.now = search rules in
-    let room : place < length marks = omega (arith, long) in
-    let within : c.loop-place.column < length c.loop-place.columns = omega (arith, marked_room marks place room is, which, width, c.loop-place.auto.columns) in
-    both_none _ _ c.put_number-then-marks-last.result (rw (sym c.index-columns-column-then-marks-last.is) at c.put_number-then-marks-last.ensures.kept) (λ kept n h.
-    ap (map (cut_to n)) (set_same c.loop-place.columns c.loop-place.column c.index-columns-column-then-marks-last.result c.put_number-then-marks-last.new.column within
-    c.index-columns-column-then-marks-last.is kept) ∙ begun n h)
+    let whole : items ≡ c.args.layout.now.looks.items = search rules in
+    let all : look_count looks ≡ length columns = ap (λ l. look_count (map places_in l)) whole ∙ c.requires.fits.wide ∙ sym c.loop-place.auto.columns in
+    let within : column ≤ length columns = column_room items place column (length columns) which all in
+    let new = c.put_cell_at-2.new.columns in
+    let go : (n : ℕ) (first : List NamedColumn) → HaveRows n first → IsBegun n first (drop column (map named columns)) → IsBegun n first (map named new) =
+    rw (named_tail column columns) at c.put_cell_at-2.ensures.begun in
+    if_none c.put_cell_at-2.result (λ n h. rw (named_put column columns new within) (IsBegun-join n column _ (map named columns) (map named new) h (begun n h) go))

@@ -10,3 +10,6 @@ returns-in-Text c = c.is_some.ensures ∙ is_mapped _ c.string_in.result ∙ ap 
 
 pub returns-in-Name : goal.returns-in-Name
 returns-in-Name c = c.is_some-in-Name.ensures ∙ is_mapped _ c.name_in.result ∙ ap is_some c.name_in.ensures ∙ ap (λ p. fits p (words_in c.args.text.now)) (sym c.in-Name.is)
+
+pub returns-in-Places : goal.returns-in-Places
+returns-in-Places c = c.is_some-in-Places.ensures ∙ ap is_some c.places_in.ensures ∙ ap (λ p. fits p (words_in c.args.text.now)) (sym c.in-Places.is)

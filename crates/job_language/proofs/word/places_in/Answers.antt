@@ -1,0 +1,18 @@
+use Rattle.std.proofs.Common.{◌≡◌, [], ◌∷◌, sym, ap, ◌∙◌, rules}
+use Rattle.lambda_expr.specs.CodeWords.{words_in}
+use Rattle.lambda_expr.proofs.NumberStops.{one_word}
+use Rattle.lambda_expr.proofs.WordList.{count_words}
+use Rattle.job_language.specs.Table.{places_in}
+use Rattle.job_language.proofs.CollectedPartLemmas.{no_places}
+use Rattle.job_language.proofs.word.places_in.Goals as goal
+
+pub returns-in-1 : goal.returns-in-1
+returns-in-1 c =
+    let t = c.args.text.now in
+    let is : c.len.result ≡ 1 = search rules in
+    c.places_word.ensures ∙ ap (λ w. places_in (w ∷ [])) c.word_at.ensures.word ∙ ap places_in (one_word (words_in t) (sym (count_words t _ c.len.ensures) ∙ is))
+
+pub returns-in_default : goal.returns-in_default
+returns-in_default c =
+    let other : c.len.result ≡ 1 → ⊥ = search rules in
+    no_places (words_in c.args.text.now) (λ e. other (count_words c.args.text.now _ c.len.ensures ∙ e))
