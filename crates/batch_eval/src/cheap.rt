@@ -7,9 +7,27 @@ use crate::power::exponent_of;
 use crate::reciprocal::reciprocal_of;
 use crate::register::Operand;
 use lambda_values::{BinaryOperator, BoolExpr, Faults, LongExpr};
+use trace::Stage;
 
 /// To gather the lanes that need an operand and to merge them again takes about as long as this many operators.
 const FEW_OPERATORS: u32 = 8;
+
+/// To move the items of a batch that pass a filter takes about as long as this many operators.
+const TO_MOVE: u32 = 4;
+
+/// Whether all later stages go over all lanes, however few passed a `filter`: the sink takes flags, and they are `map`s
+/// and `filter`s that take less time so than it takes to move the items.
+pub(crate) fn stay_in_lanes(stages: &[Stage], takes_flags: bool) -> bool {
+    let mut left = if takes_flags { TO_MOVE + 1 } else { 0 };
+    for stage in stages {
+        left = match stage {
+            Stage::Map(image) => after_long(image, left),
+            Stage::Filter(test) => after_test(test, left),
+            Stage::FlatMap(_) => 0,
+        };
+    }
+    left > 0
+}
 
 /// Whether an operand has few operators, and each is cheap and can't fault.
 pub(crate) fn is_cheap(operand: Operand<'_>) -> bool {

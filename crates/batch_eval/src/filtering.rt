@@ -1,7 +1,8 @@
 //! Filters of a batch.
 //!
 //! A `filter` writes a flag for each lane, and moves nothing. Stages after it may go over all lanes, whatever their
-//! flags are, and a further `filter` clears flags. As long as most lanes pass, that is faster than to move their items.
+//! flags are, and a further `filter` clears flags. As long as most lanes pass, that is faster than to move their items;
+//! so it is where few operators are left and the sink takes flags.
 
 ghost use Rattle.batch_eval.specs.Batches.{flagged_walk};
 ghost use Rattle.batch_eval.specs.Lanes.{at};
@@ -39,6 +40,13 @@ fn most_are_set(flags: &[i64], live: usize) -> bool
     set >= count as i64 / 2
 }
 
+/// Whether an operand is evaluated at all lanes: it is cheap, and most flags are set or it is wanted whatever they are.
+fn is_worth(operand: Operand<'_>, whatever: bool, flags: &[i64], live: usize) -> bool
+    requires { live ≤ length flags.now }
+{
+    is_cheap(operand) && (whatever || most_are_set(flags, live))
+}
+
 impl Batch {
     /// `filter` of `LongStream`, but no item is moved: those of the lanes whose flag is set pass.
     pub(crate) fn flag_lanes(
@@ -71,11 +79,12 @@ impl Batch {
         self.live = reached.live;
     }
 
-    /// Goes through `map`s and `filter`s over all lanes, as long as most flags are set, an expression is cheap, and no
-    /// lane has a fault. The result are the stages to come.
+    /// Goes through `map`s and `filter`s over all lanes, as long as most flags are set or it is to do so whatever they
+    /// are, an expression is cheap, and no lane has a fault. The result are the stages to come.
     pub(crate) fn sift<'a>(
         &mut self,
         line: Pipeline<'a>,
+        whatever: bool,
         flags: &mut [i64],
         room: &mut [i64],
     ) -> Pipeline<'a>
@@ -94,20 +103,20 @@ impl Batch {
         };
         match line.split_first() {
             Some((Stage::Map(image), later))
-                if is_cheap(Operand::Long(image)) && most_are_set(flags, self.live) => {
+                if is_worth(Operand::Long(image), whatever, flags, self.live) => {
                 if eval_long(image, inputs, &mut self.spare, room).live < self.live {
                     return line;
                 }
                 mem::swap(&mut self.values, &mut self.spare);
-                self.sift(later, flags, room)
+                self.sift(later, whatever, flags, room)
             }
             Some((Stage::Filter(test), later))
-                if is_cheap(Operand::Bool(test)) && most_are_set(flags, self.live) => {
+                if is_worth(Operand::Bool(test), whatever, flags, self.live) => {
                 if eval_bool(test, inputs, &mut self.spare, room).live < self.live {
                     return line;
                 }
                 select(&self.spare, Own, Number(0), self.live, flags);
-                self.sift(later, flags, room)
+                self.sift(later, whatever, flags, room)
             }
             _ => line,
         }

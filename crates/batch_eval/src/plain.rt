@@ -8,6 +8,7 @@ ghost use Rattle.trace.specs.Stages.{stages_of};
 ghost use Rattle.trace.specs.Trace.{trace};
 
 use crate::batch::Batch;
+use crate::cheap::stay_in_lanes;
 use crate::lane_items::LaneItems;
 use crate::pipeline::Pipeline;
 use crate::register::LANES;
@@ -62,7 +63,8 @@ impl Batch {
             }
             Some((Stage::Filter(test), later)) if !takes_flags || !later.stages.is_empty() => {
                 self.flag_lanes(test, line, flags, rest);
-                let later = self.sift(later, flags, rest);
+                let whatever = stay_in_lanes(later.stages, takes_flags);
+                let later = self.sift(later, whatever, flags, rest);
                 if takes_flags && later.stages.is_empty() {
                     return None;
                 }
