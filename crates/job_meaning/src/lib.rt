@@ -17,6 +17,6 @@ mod names;
 mod values;
 
 pub use answer::Answer;
-pub use laws::walks_go_item_by_item;
+pub use laws::{answers_have_64_bits, walks_go_item_by_item};
 pub use names::names_in_job;
 pub use values::Values;

@@ -6,7 +6,8 @@ use Rattle.job_meaning.specs.declared.answer.Answer.{Answer}
 use Rattle.job_meaning.specs.FileAnswers.{meaning_of}
 use Rattle.merge_run.specs.declared.part_report.PartReport.{PartReport}
 use Rattle.merge_run.specs.Merged.{ArePossible, AreReportsOf, IsMergeOf, IsReportOf, IsTableOf}
-use Rattle.merge_run.specs.Small.{ArePartsSmall, AreSmall, IsSmall}
+use Rattle.job_meaning.specs.Longs.{AnswerFits, AnswersFit}
+use Rattle.merge_run.specs.Small.{ArePartsSmall}
 use Rattle.merge_run.proofs.UniqueReports.{same_parts}
 use Rattle.report_merge.specs.Possible.{first_impossible}
 use Rattle.report.specs.Reports.{IsReport, form_for, report_in}
@@ -34,11 +35,11 @@ possible_more jobs [] p h one = (one, tt)
 possible_more jobs (q ∷ ps) p h one = (h.0, possible_more jobs ps p h.1 one)
 
 -- answers that a report can hold
-pub small_more : (names : List (List ℕ)) (xs : List Answer) (a : Answer) → AreSmall names xs → IsSmall names a → AreSmall names (xs ++ a ∷ [])
+pub small_more : (names : List (List ℕ)) (xs : List Answer) (a : Answer) → AnswersFit names xs → AnswerFits names a → AnswersFit names (xs ++ a ∷ [])
 small_more names [] a h one = (one, tt)
 small_more names (x ∷ xs) a h one = (h.0, small_more names xs a h.1 one)
 
-pub parts_small_more : (names : List (List ℕ)) (ps : List Part) (p : Part) → ArePartsSmall names ps → length names ≡ length p.answers → AreSmall names p.answers → ArePartsSmall names (ps ++ p ∷ [])
+pub parts_small_more : (names : List (List ℕ)) (ps : List Part) (p : Part) → ArePartsSmall names ps → length names ≡ length p.answers → AnswersFit names p.answers → ArePartsSmall names (ps ++ p ∷ [])
 parts_small_more names [] p h paired one = (paired, one, tt)
 parts_small_more names (q ∷ ps) p h paired one = (h.0, h.1, parts_small_more names ps p h.2 paired one)
 

@@ -19,7 +19,8 @@ use Rattle.lambda_values.specs.FaultTexts.{kind_text}
 use Rattle.report.specs.AnswerForms.{integer_json, job_json, optional_json, place_json}
 use Rattle.report.specs.Json.{jobs_json, report_json}
 use Rattle.merge_run.specs.Merged.{AreReportsOf}
-use Rattle.merge_run.specs.Small.{AllFit, ArePartsSmall, AreSmall, Fits, IsFirst, IsSmall, OptionFits, PlaceFits}
+use Rattle.job_meaning.specs.Longs.{AllFit, AnswerFits, AnswersFit, Fits, IsFirst, OptionFits, PlaceFits}
+use Rattle.merge_run.specs.Small.{ArePartsSmall}
 use Rattle.merge_run.specs.declared.part_report.PartReport.{PartReport}
 use Rattle.report_merge.specs.Merging.{Part}
 
@@ -158,7 +159,7 @@ same_first names y z ha hb e =
     let right : z < y → ⊥ = λ h. ha z h (sym e) in
     grind (arith, left, right)
 
-same_answer : (names : List (List ℕ)) (n : List ℕ) (a b : Answer) → IsSmall names a → IsSmall names b → outline (job_json names n a) ≡ outline (job_json names n b) → a ≡ b
+same_answer : (names : List (List ℕ)) (n : List ℕ) (a b : Answer) → AnswerFits names a → AnswerFits names b → outline (job_json names n a) ≡ outline (job_json names n b) → a ≡ b
 same_answer names n (answer.Number y) (answer.Number z) ha hb e = ap answer.Number (same_integer y z ha hb (ap second_value e))
 same_answer names n (answer.Number y) (answer.Truth z) ha hb e = absurd (let k : 110110 ≡ 110116 = ap tag e in omega arith)
 same_answer names n (answer.Number y) (answer.Optional z) ha hb e = absurd (let k : 110110 ≡ 110111 = ap tag e in omega arith)
@@ -208,7 +209,7 @@ optional_fits : (o : Option ℤ) → OptionFits o → HasNumbers (outline (optio
 optional_fits None h = tt
 optional_fits (Some z) h = integer_fits z h
 
-job_fits : (names : List (List ℕ)) (n : List ℕ) (a : Answer) → IsSmall names a → HasNumbers (outline (job_json names n a))
+job_fits : (names : List (List ℕ)) (n : List ℕ) (a : Answer) → AnswerFits names a → HasNumbers (outline (job_json names n a))
 job_fits names n (answer.Number z) h = (tt, (integer_fits z h, tt))
 job_fits names n (answer.Truth b) h = (tt, (tt, tt))
 job_fits names n (answer.Optional v) h = (tt, (optional_fits v h, tt))
@@ -231,7 +232,7 @@ job_flat names n (answer.Fault f) = place_flat f.origin
     place_flat (Some i) = omega arith
 job_flat names n (answer.Unusable i) = omega arith
 
-jobs_fit : (names ns : List (List ℕ)) (xs : List Answer) → AreSmall names xs → ItemsHaveNumbers (items_outline (items_of (jobs_json names ns xs)))
+jobs_fit : (names ns : List (List ℕ)) (xs : List Answer) → AnswersFit names xs → ItemsHaveNumbers (items_outline (items_of (jobs_json names ns xs)))
 jobs_fit names [] xs h = tt
 jobs_fit names (n ∷ ns) [] h = tt
 jobs_fit names (n ∷ ns) (a ∷ xs) h = (job_fits names n a h.0, jobs_fit names ns xs h.1)
@@ -241,7 +242,7 @@ jobs_flat names [] xs = omega arith
 jobs_flat names (n ∷ ns) [] = omega arith
 jobs_flat names (n ∷ ns) (a ∷ xs) = omega (arith, job_flat names n a, jobs_flat names ns xs)
 
-same_answers : (names ns : List (List ℕ)) (xs bs : List Answer) → length ns ≡ length xs → length ns ≡ length bs → AreSmall names xs → AreSmall names bs
+same_answers : (names ns : List (List ℕ)) (xs bs : List Answer) → length ns ≡ length xs → length ns ≡ length bs → AnswersFit names xs → AnswersFit names bs
     → items_outline (items_of (jobs_json names ns xs)) ≡ items_outline (items_of (jobs_json names ns bs)) → xs ≡ bs
 same_answers names [] [] [] la lb ha hb e = refl
 same_answers names [] [] (b ∷ bs) la lb ha hb e = absurd (omega (arith, lb))
@@ -264,7 +265,7 @@ last_off (b ∷ []) c = refl
 last_off (b ∷ d ∷ bs) c = ap (λ (xs : List ℕ). b ∷ xs) (last_off (d ∷ bs) c)
 
 -- a report as JSON holds one list of answers
-pub one_report : (names : List (List ℕ)) (xs bs : List Answer) → length names ≡ length xs → length names ≡ length bs → AreSmall names xs → AreSmall names bs
+pub one_report : (names : List (List ℕ)) (xs bs : List Answer) → length names ≡ length xs → length names ≡ length bs → AnswersFit names xs → AnswersFit names bs
     → report_json names xs ≡ report_json names bs → xs ≡ bs
 one_report names xs bs la lb ha hb e =
     let d = array (items_of (jobs_json names names xs)) in

@@ -2,7 +2,8 @@
 ghost use Rattle.std.specs.Prelude.{◌≡◌, ℕ, List, length};
 ghost use Rattle.job_meaning.specs.declared.answer.Answer.{Answer as meant_answer};
 ghost use Rattle.merge_run.specs.Merged.{AreReportsOf};
-ghost use Rattle.merge_run.specs.Small.{ArePartsSmall, AreSmall};
+ghost use Rattle.job_meaning.specs.Longs.{AnswersFit};
+ghost use Rattle.merge_run.specs.Small.{ArePartsSmall};
 ghost use Rattle.merge_run.specs.declared.part_report.PartReport.{PartReport as meant_report};
 ghost use Rattle.report_merge.specs.Merging.{Part};
 ghost use Rattle.report.specs.Json.{report_json};
@@ -15,5 +16,5 @@ pub fn one_report()
         → ArePartsSmall names ps → ArePartsSmall names qs → ps ≡ qs }
     ensures answers { (names : List (List ℕ)) (a b : List meant_answer) → length names ≡ length a
         → length names ≡ length b
-        → AreSmall names a → AreSmall names b → report_json names a ≡ report_json names b → a ≡ b }
+        → AnswersFit names a → AnswersFit names b → report_json names a ≡ report_json names b → a ≡ b }
 {}

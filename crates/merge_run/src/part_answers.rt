@@ -1,7 +1,7 @@
 //! The answers of a part of a table, read from its report.
 ghost use Rattle.std.specs.Prelude.{◌≡◌, ◌<◌, ◌≤◌, ℕ, All, true, List, length, IfErr, IfOk, IfSome};
 ghost use Rattle.merge_run.specs.declared.part_answers.ReportFault.TheVariants as read_fault;
-ghost use Rattle.merge_run.specs.Small.{AllFit, AreSmall, IsFirst, IsSmall};
+ghost use Rattle.job_meaning.specs.Longs.{AllFit, AnswerFits, AnswersFit, IsFirst};
 ghost use Rattle.trace.specs.declared.item.Fault.{Fault as fault};
 ghost use Rattle.report.specs.Json.{report_json};
 ghost use Rattle.report.specs.Named.{IsNamed, IsText};
@@ -70,7 +70,7 @@ pub fn read_answers(
     ensures written { IfOk result (λ answers. bytes.now ≡ report_json names.now answers.items) }
     ensures paired { IfOk result (λ answers. length names.now ≡ length answers.items) }
     ensures named { IfOk result (λ answers. All (IsNamed names.now) answers.items) }
-    ensures small { IfOk result (λ answers. AreSmall names.now answers.items) }
+    ensures small { IfOk result (λ answers. AnswersFit names.now answers.items) }
     ensures other { IfErr result (λ fault. (job : ℕ) → fault ≡ ReportFault.OtherJobs job → job < length names.now) }
 {
     let answers = answers_in(alloc, names, bytes)?;
@@ -87,7 +87,7 @@ pub fn read_answers(
 /// The answers that these bytes list, as far as they are those of these jobs.
 fn answers_in(alloc: Global, names: &[Bytes], bytes: &[u8]) -> Result<Vec<Answer>, ReportFault>
     ensures named { IfOk result (λ answers. All (IsNamed names.now) answers.items) }
-    ensures small { IfOk result (λ answers. AreSmall names.now answers.items) }
+    ensures small { IfOk result (λ answers. AnswersFit names.now answers.items) }
     ensures few { IfOk result (λ answers. length answers.items ≤ length names.now) }
     ensures other { IfErr result (λ fault. (job : ℕ) → fault ≡ ReportFault.OtherJobs job → job < length names.now) }
 {
@@ -116,7 +116,7 @@ fn answers_in(alloc: Global, names: &[Bytes], bytes: &[u8]) -> Result<Vec<Answer
 /// The answer that these members say, if they say one.
 fn answer_of(names: &[Bytes], members: Members<'_>) -> Result<Option<Answer>, NoMemory>
     ensures named { IfOk result (λ found. IfSome found (IsNamed names.now)) }
-    ensures small { IfOk result (λ found. IfSome found (IsSmall names.now)) }
+    ensures small { IfOk result (λ found. IfSome found (AnswerFits names.now)) }
 {
     if let Some(kind) = members.fault {
         return Ok(fault_of(kind, members.stage, members.item));
@@ -153,7 +153,7 @@ fn are_long(values: &[i64]) -> bool
 /// The fault of this kind at this stage and item.
 fn fault_of(kind: &str, stage: Option<u32>, item: Option<u64>) -> Option<Answer>
     ensures fault { IfSome result (λ answer. (f : fault) × (answer ≡ Answer.Fault f)) }
-    ensures small { IfSome result (λ answer. (names : List (List ℕ)) → IsSmall names answer) }
+    ensures small { IfSome result (λ answer. (names : List (List ℕ)) → AnswerFits names answer) }
 {
     Some(Answer::Fault(Fault {
         kind: kind_of(kind)?,
@@ -183,7 +183,7 @@ fn kind_of(name: &str) -> Option<FaultKind> {
 /// Unusable because of the job with this name.
 fn unusable_of(names: &[Bytes], name: &str) -> Option<Answer>
     ensures named { IfSome result (IsNamed names.now) }
-    ensures small { IfSome result (IsSmall names.now) }
+    ensures small { IfSome result (AnswerFits names.now) }
 {
     let job = place_of(names, name)?;
     Some(Answer::Unusable(job))

@@ -1,5 +1,5 @@
 use Rattle.std.proofs.Common.{drop}
-use Rattle.merge_run.specs.Small.{AllFit}
+use Rattle.job_meaning.specs.Longs.{AllFit}
 use Rattle.merge_run.proofs.part_answers.are_long.Given as goal
 
 abbrev pub invariant-loop-value : goal.invariant-loop-value
