@@ -1,10 +1,11 @@
 -- Walks through links.
-use Rattle.std.proofs.Common.{◌≡◌, ℕ, zero, suc, true, false, List, [], ◌∷◌, ◌++◌, ◌<◌, ◌≤◌, length, get_or, refl, ap, ◌∙◌, arith}
+use Rattle.std.proofs.Common.{◌≡◌, ℕ, zero, suc, Bool, true, false, List, [], ◌∷◌, ◌++◌, ◌<◌, ◌≤◌, length, get_or, refl, ap, ◌∙◌, arith}
+use Rattle.std.specs.Prelude.{◌||◌}
 use Rattle.lambda_values.specs.Earlier.{Numbers}
 use Rattle.trace.specs.Trace.{Trace}
 use Rattle.job_routes.specs.declared.leg.Leg.{Leg}
 use Rattle.job_routes.specs.declared.leg.Link.{Link}
-use Rattle.job_routes.specs.Legs.{is_linked, leg_in, legs_in, link_in, links_in, AbstractLeg, AbstractLink, given_walk, leg_among, leg_outcome, link_walk, linked, scanned}
+use Rattle.job_routes.specs.Legs.{is_linked, is_in_order, is_one_piece, leg_in, legs_in, link_in, links_in, AbstractLeg, AbstractLink, given_walk, leg_among, leg_outcome, link_walk, linked, scanned}
 
 -- without a slice a walk stays as it is
 pub unlinked : (ls : List AbstractLink) (env : Numbers) (t : Trace) → is_linked ls ≡ false → linked ls env t ≡ t
@@ -41,3 +42,11 @@ pub leg_after : (k : ℕ) (ls : List Leg) (last : AbstractLeg) → length ls ≤
 leg_after k [] last h = refl
 leg_after zero (m ∷ ls) last h = absurd (omega arith)
 leg_after (suc k) (m ∷ ls) last h = leg_after k ls last (omega arith)
+
+-- a leg whose walk may be cut has no slices
+pub without_slices : (l : AbstractLeg) → is_one_piece l ≡ false → is_linked l.links ≡ false
+without_slices l e = first (is_linked l.links) (is_in_order l.last) e
+  where
+    first : (a b : Bool) → (a || b) ≡ false → a ≡ false
+    first true b h = h
+    first false b h = refl

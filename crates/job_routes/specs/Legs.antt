@@ -1,9 +1,10 @@
 -- Design: the legs of a job.
-use Rattle.std.specs.Prelude.{ℕ, zero, suc, ℤ, pos, Bool, true, false, ◌+◌, List, [], ◌∷◌, length, map as each_of, Option, Some, None, is_some}
+use Rattle.std.specs.Prelude.{ℕ, zero, suc, ℤ, pos, Bool, true, false, ◌||◌, ◌+◌, List, [], ◌∷◌, length, map as each_of, Option, Some, None, is_some}
 use Rattle.lambda_values.specs.Earlier.{Numbers}
 use Rattle.lambda_values.specs.Term.{Truth}
 use Rattle.lambda_values.specs.declared.item.Item.{Item}
-use Rattle.trace.specs.Stages.{AbstractStage, pipe, stages_of}
+use Rattle.lambda_values.specs.Streams.{range, range_closed, values}
+use Rattle.trace.specs.Stages.{AbstractStage, map, filter, flat_map, pipe, stages_of}
 use Rattle.trace.specs.Trace.{Trace, nothing, trace}
 use Rattle.reduce_ops.specs.declared.op.Op.{Op}
 use Rattle.reduce_ops.specs.declared.op.Op.TheVariants as op
@@ -121,6 +122,36 @@ linked (l ∷ ls) env t = linked ls env (link_walk l env t)
 abbrev pub is_linked : List AbstractLink → Bool
 is_linked [] = false
 is_linked (l ∷ ls) = true
+
+-- whether these stages may make an item into many: into a range, or into lists of at most 64 values by more than this
+-- number of `flatMap`s
+abbrev pub makes_many : ℕ → List AbstractStage → Bool
+makes_many n [] = false
+makes_many n (map e ∷ gs) = makes_many n gs
+makes_many n (filter p ∷ gs) = makes_many n gs
+makes_many n (flat_map (range a b) ∷ gs) = true
+makes_many n (flat_map (range_closed a b) ∷ gs) = true
+makes_many zero (flat_map (values es) ∷ gs) = true
+makes_many (suc n) (flat_map (values es) ∷ gs) = makes_many n gs
+
+-- helper: whether this ends stages that may make an item into many, and is an exact sum
+abbrev pub sums_many : AbstractEnd → Bool → Bool
+sums_many exactly many = many
+sums_many (folding f start counts) many = false
+sums_many (finding d) many = false
+sums_many collecting many = false
+sums_many (scanning f r) many = false
+sums_many sorting many = false
+sums_many (keeping_firsts most) many = false
+
+-- whether a segment is walked in order: an exact sum of the many items that one may be made into, where the only end of a
+-- piece may be the item at which the sum from the left is outside 64 bits
+abbrev pub is_in_order : AbstractSegment → Bool
+is_in_order s = sums_many s.ending (makes_many 2 s.stages)
+
+-- whether the walk of a leg is one piece: through slices, and where it is in order
+abbrev pub is_one_piece : AbstractLeg → Bool
+is_one_piece l = is_linked l.links || is_in_order l.last
 
 -- the items of a walk at these positions, with its end
 abbrev pub windowed : ℕ → Option ℕ → Trace → Trace

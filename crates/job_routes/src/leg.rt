@@ -28,15 +28,16 @@ pub struct Leg {
 }
 
 impl Leg {
-    ghost use Rattle.job_routes.specs.Legs.{given_walk, is_linked, leg_in, leg_outcome};
+    ghost use Rattle.job_routes.specs.Legs.{given_walk, is_one_piece, leg_in, leg_outcome};
 
-    /// Whether there is a slice. The walk is then one piece, whatever its length is.
+    /// Whether the walk is one piece, whatever its length is: it goes through slices, or it is an exact sum of the many
+    /// items that one may be made into.
     pub fn streams(&self) -> bool
-        ensures { result ≡ is_linked (leg_in self.now).links }
+        ensures { result ≡ is_one_piece (leg_in self.now) }
     {
         match self.links.split_first() {
             Some(_) => true,
-            None => false,
+            None => self.last.is_in_order(),
         }
     }
 

@@ -10,12 +10,12 @@ use Rattle.early_stop.specs.Leaving.{IsEnough}
 use Rattle.early_stop.proofs.Leaving.{enough_as, enough_gives, enough_joined, enough_left}
 use Rattle.job_plan.specs.Parts.{EndsFor, StandsEnough, StandsFor, is_running, is_settled, may_search}
 use Rattle.job_plan.specs.Plans.{plan_in, plans_in}
-use Rattle.job_routes.specs.Legs.{is_linked, AbstractEnd, AbstractLeg, AbstractLink, AbstractSegment, ended, exactly, given_answer, given_walk, last_stage, leg_at, legs_answer, linked, outcome_of, walk_of, AbstractLegs, leg_among, leg_outcome, scanned}
+use Rattle.job_routes.specs.Legs.{is_one_piece, AbstractEnd, AbstractLeg, AbstractSegment, ended, exactly, given_answer, given_walk, last_stage, leg_at, legs_answer, linked, outcome_of, walk_of, AbstractLegs, leg_among, leg_outcome, scanned}
 use Rattle.job_plan.proofs.EnoughLemmas.{whole_enough}
 use Rattle.job_plan.proofs.PartLemmas.{other_ends, settled_decides}
 use Rattle.prefix_walks.specs.Pieces.{IsNotAfter, piece_of}
 use Rattle.prefix_walks.proofs.ScanLemmas.{pieces_joined, whole_piece}
-use Rattle.job_routes.proofs.LinkLemmas.{unlinked}
+use Rattle.job_routes.proofs.LinkLemmas.{without_slices, unlinked}
 use Rattle.job_table.specs.PlanSegments.{AbstractChain, PartStands, given_at, gives_at, last_leg, piece_between, size_at, source_at, upto, walk_at, walk_size, plan_at}
 use Rattle.job_plan.specs.declared.plan.JobPlan.{JobPlan}
 
@@ -67,11 +67,14 @@ not_after false middle to h = h
 
 -- no more positions than items
 pub size_within : (chain : AbstractChain) (segment : ℕ) → size_at chain segment ≤ length (walk_at chain segment).items
-size_within chain segment = by (leg_at segment chain.legs).links
+size_within chain segment = by (is_one_piece leg) refl
   where
-    by : (ls : List AbstractLink) → (if is_linked ls then 0 else walk_size (source_at chain segment)) ≤ length (linked ls chain.numbers (source_at chain segment)).items
-    by [] = omega arith
-    by (l ∷ ls) = omega arith
+    leg : AbstractLeg
+    leg = leg_at segment chain.legs
+
+    by : (b : Bool) → is_one_piece leg ≡ b → (if b then 0 else walk_size (source_at chain segment)) ≤ length (walk_at chain segment).items
+    by true e = omega arith
+    by false e = let same = ap (λ (t : Trace). length t.items) (unlinked leg.links chain.numbers (source_at chain segment) (without_slices leg e)) in omega (arith, same)
 
 between_joined : (t : Trace) (size from middle to : ℕ) → from < middle → middle < to → to ≤ size → append (piece_between size from middle t) (piece_between size middle to t) ≡ piece_between size from to t
 between_joined t size from middle to l h w =
@@ -156,10 +159,10 @@ all_stands chain segment l (Ok p) env w got alone walks h =
     whole_enough (leg_at segment chain.legs).last chain.numbers p (Decides (gives_at chain segment) t) 0 (piece_between size 0 size t) stands
 all_stands chain segment l (Err e) env w got alone walks h = tt
 
--- a piece of a leg that goes through slices is all of it
-pub one_piece : (chain : AbstractChain) (segment from to : ℕ) (l : AbstractLeg) → l ≡ leg_at segment chain.legs → is_linked l.links ≡ true → from ≤ to → to ≤ size_at chain segment → (from ≡ 0) × (to ≡ size_at chain segment)
-one_piece chain segment from to l got linked_so ordered within =
-    let none : size_at chain segment ≡ 0 = ap (λ (b : Bool). if b then 0 else walk_size (source_at chain segment)) (ap (λ (k : AbstractLeg). is_linked k.links) (sym got) ∙ linked_so) in
+-- a piece of a leg whose walk is one piece is all of it
+pub one_piece : (chain : AbstractChain) (segment from to : ℕ) (l : AbstractLeg) → l ≡ leg_at segment chain.legs → is_one_piece l ≡ true → from ≤ to → to ≤ size_at chain segment → (from ≡ 0) × (to ≡ size_at chain segment)
+one_piece chain segment from to l got whole ordered within =
+    let none : size_at chain segment ≡ 0 = ap (λ (b : Bool). if b then 0 else walk_size (source_at chain segment)) (ap is_one_piece (sym got) ∙ whole) in
     (omega (arith, none, ordered, within), omega (arith, none, within))
 
 -- the part of a piece that is all of a leg
@@ -176,15 +179,16 @@ upto_all size n to u same here e = e ∙ sym (ap (λ (b : Bool). if b then None 
 pub upto_some : (size n to : ℕ) (u : Option ℕ) → n ≡ size → (to ≡ n → ⊥) → u ≡ Some to → u ≡ upto size to
 upto_some size n to u same other e = e ∙ sym (ap (λ (b : Bool). if b then None else Some to) (ne_eqb to size (λ x. other (x ∙ sym same))))
 
--- the part of a piece of a leg without slices
+-- the part of a piece of a leg whose walk may be cut
 pub piece_stands : {F : Type 0} (chain : AbstractChain) (segment from to : ℕ) (l : AbstractLeg) (w : Trace) (env : Numbers) (u : Option ℕ) (decides : ℕ → Type 0) (r : Result Part F)
-    → l ≡ leg_at segment chain.legs → is_linked l.links ≡ false → env ≡ chain.numbers → w ≡ source_at chain segment → u ≡ upto (walk_size w) to → ((c : ℕ) → decides c → Decides (gives_at chain segment) (walk_at chain segment) c)
+    → l ≡ leg_at segment chain.legs → is_one_piece l ≡ false → env ≡ chain.numbers → w ≡ source_at chain segment → u ≡ upto (walk_size w) to → ((c : ℕ) → decides c → Decides (gives_at chain segment) (walk_at chain segment) c)
     → IfOk r (λ part. StandsEnough decides l.last env part from (piece_of from u w)) → IfOk r (λ part. PartStands chain segment from to part)
 piece_stands chain segment from to l w env u decides (Ok p) got plain alone walks ends more h =
     let at = leg_at segment chain.legs in
-    let bare : is_linked at.links ≡ false = ap (λ (k : AbstractLeg). is_linked k.links) (sym got) ∙ plain in
+    let cut : is_one_piece at ≡ false = ap is_one_piece (sym got) ∙ plain in
+    let bare = without_slices at cut in
     let over : w ≡ walk_at chain segment = walks ∙ sym (unlinked at.links chain.numbers (source_at chain segment) bare) in
-    let size : walk_size w ≡ size_at chain segment = ap walk_size walks ∙ sym (ap (λ (b : Bool). if b then 0 else walk_size (source_at chain segment)) bare) in
+    let size : walk_size w ≡ size_at chain segment = ap walk_size walks ∙ sym (ap (λ (b : Bool). if b then 0 else walk_size (source_at chain segment)) cut) in
     let last : u ≡ upto (size_at chain segment) to = ends ∙ ap (λ (n : ℕ). upto n to) size in
     let a = subst (λ (e : Numbers). StandsEnough decides l.last e p from (piece_of from u w)) alone h in
     let b = subst (λ (v : Option ℕ). StandsEnough decides l.last chain.numbers p from (piece_of from v w)) last a in

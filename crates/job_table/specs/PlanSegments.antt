@@ -17,7 +17,7 @@ use Rattle.job_meaning.specs.contracts.answer.Answer as answers
 use Rattle.job_meaning.specs.FileAnswers.{EarlierJob, all_put_in, first_unusable, numbers_of}
 use Rattle.job_meaning.specs.Walks.{source_walk}
 use Rattle.job_routes.specs.declared.outcome.Outcome.{Outcome}
-use Rattle.job_routes.specs.Legs.{AbstractLeg, AbstractLegs, collecting, is_linked, leg_at, leg_walk, linked, outcome_of, scanned}
+use Rattle.job_routes.specs.Legs.{AbstractLeg, AbstractLegs, collecting, is_one_piece, leg_at, leg_walk, linked, outcome_of, scanned}
 use Rattle.job_plan.specs.declared.part.Part.{Part}
 use Rattle.job_plan.specs.declared.plan.JobPlan.{JobPlan}
 use Rattle.job_plan.specs.contracts.plan.JobPlan as plans
@@ -85,9 +85,9 @@ walk_at chain k = linked (leg_at k chain.legs).links chain.numbers (source_at ch
 abbrev pub walk_size : Trace → ℕ
 walk_size t = min (length t.items) (2 ^ 64 - 1)
 
--- how many positions a leg that is given this walk has for a run: with slices it is one piece without positions
+-- how many positions a leg that is given this walk has for a run: if its walk is one piece, that has none
 abbrev pub positions_of : AbstractLeg → Trace → ℕ
-positions_of leg t = if is_linked leg.links then 0 else walk_size (leg_walk leg t)
+positions_of leg t = if is_one_piece leg then 0 else walk_size (leg_walk leg t)
 
 -- how many positions the leg with this number has for a run
 abbrev pub size_at : AbstractChain → ℕ → ℕ
