@@ -11,14 +11,11 @@
 //! error says which it was.
 #![tactic(auto)]
 
-ghost use Rattle.std.specs.Prelude.{◌≡◌, ◌==◌, ◌&&◌, if◌then◌else◌, Result, ⊤};
-ghost use Rattle.engine.specs.Given.{IsAnswered, IsLeft};
-ghost use Rattle.engine.specs.Statuses.{status_after};
-ghost use Rattle.engine.specs.declared.fault.EngineFault.{EngineFault as meant_fault};
-ghost use Rattle.run_settings.specs.Asked.{asked_of};
+ghost use Rattle.std.specs.Prelude.{◌≡◌, ◌==◌, ◌&&◌, if◌then◌else◌};
 
 mod advice;
 mod command_line;
+mod ending;
 mod progress;
 mod table_options;
 
@@ -27,8 +24,9 @@ use advice::{
 };
 use clap::error::ErrorKind as ArgumentErrorKind;
 use command_line::{Arguments, read_arguments};
-use counted_io::{Counted, CountedOut, CountedRead, CountedWrite};
-use engine::{EngineFault, run, status_after, tell};
+use counted_io::{Counted, CountedOut, CountedRead};
+use ending::ended_run;
+use engine::{EngineFault, tell};
 use progress::Progress;
 use run_settings::Settings;
 use std::alloc::AllocError;
@@ -257,37 +255,4 @@ fn status_with(status: u8, lacks_value: bool) -> u8
     } else {
         status
     }
-}
-
-/// Runs the jobs, wipes the line, and answers the exit status; after a fault its line is on standard error.
-fn ended_run<H: Threads + Wait + Sync, C: CountedRead, J: CountedRead, W: CountedWrite>(
-    rt: &HostRuntime,
-    threads: &H,
-    columns: Option<&mut C>,
-    jobs: &mut J,
-    writer: &mut W,
-    settings: &Settings,
-    progress: &Progress<'_, H>,
-) -> u8
-    // The status is the status after an answer of the run over these readers and this writer, with the clauses of `run`
-    // but those two about the reader of columns after the run.
-    ensures { (answer : Result ⊤ meant_fault) × (result ≡ status_after answer)
-        × IsAnswered C.remaining columns.entry (J.remaining jobs.old) (asked_of settings.now)
-        (W.contents writer.old) (W.contents writer.new) answer
-        × IsLeft (asked_of settings.now) (record { bytes = J.remaining jobs.old; failures = J.failures jobs.old })
-        (record { bytes = J.remaining jobs.new; failures = J.failures jobs.new })
-        (record { bytes = W.contents writer.old; failures = W.failures writer.old })
-        (record { bytes = W.contents writer.new; failures = W.failures writer.new }) answer }
-{
-    let answer = run(
-        threads,
-        rt.alloc(),
-        columns,
-        jobs,
-        writer,
-        settings,
-        progress,
-    );
-    progress.end();
-    status_after(&answer, &mut rt.stderr())
 }
