@@ -6,7 +6,7 @@ import shutil
 import sys
 import tempfile
 
-from lib import crate_peer, in_turns, least_of, peer, row
+from lib import HERE, crate_peer, in_turns, least_of, peer, row
 from running import TOP, options_of, python_with, run, write
 import tasks
 
@@ -95,30 +95,42 @@ def prefixes():
                 row(f'{name}, {workers} worker{"s" * (workers > 1)}', jobs.cost(stream, workers)[:2], 40)
 
 
+# What sort and uniq answer about a file of numbers, by the question; {} is the half of their number.
+BY_SORT = {'limit': 'printf "q = [%s]\\n" "$(sort -n "$1" | head -n 10 | paste -sd, | sed "s/,/, /g")"',
+           'middle': 'echo "q = OptionalLong[$(sort -n "$1" | sed -n "$(({} + 1))p")]"',
+           'distinct': 'echo "q = $(sort -n "$1" | uniq | wc -l)"'}
+
+
 def sorting():
-    """Times sorted and distinct over numbers of four kinds beside Java and Rust, which give the program's answers.
+    """Times sorted and distinct over numbers of four kinds beside Java, Rust, numpy and sort, which give the program's answers.
 
     bench/run sorting [--turns N] [--counts N,..] [--kinds random,few,ascending,reversed] [PROGRAM]
 
     It prints wall and processor time in milliseconds of whole processes, Java's in a warm process too, on its own. Rust sorts on one
-    thread (sort_unstable), or fills a set.
+    thread by sort_unstable and on four by rayon's par_sort_unstable, or fills sets. `sort` reads the numbers from a file.
     """
     options = options_of(sorting.__doc__, turns=3, counts=['1000000', '10000000'], kinds=list(NUMBERS))
     with tempfile.TemporaryDirectory() as folder:
-        jobs = Jobs(options, folder)
-        java, rust = peer(folder, 'sorting/Sorting.java', '-Xmx4g'), peer(folder, 'sorting/sorting.rs', '-C', 'target-cpu=native')
+        jobs, file = Jobs(options, folder), os.path.join(folder, 'numbers')
+        java, rust = peer(folder, 'sorting/Sorting.java', '-Xmx4g'), crate_peer(folder, 'sorting/by_rayon')
+        numpy = python_with('numpy')
         row('ms', ['wall', 'processor'], 50)
-        for count, kind, (question, ends) in [(n, k, q) for n in options.counts for k in options.kinds for q in QUESTIONS_OF_ORDER.items()]:
-            stream = f'range(0, {count}){NUMBERS[kind]}.{ends.format(int(count) // 2)}'
-            row(f'{question}, {kind}, {count}', [])
-            for workers in (1, 4):
-                row(f'  here {workers}', jobs.cost(stream, workers, '--language', '3')[:2], 50)
-            words = [kind, question, count]
-            for name, command in [('Java, parallel', java), ('Rust, one thread', rust)]:
-                if command:
-                    row(f'  {name}', jobs.command([*command, *words], stream)[:2], 50)
-            if java:
-                row('  Java, parallel, warm', [float(run([*java, *words, '20'], text=True).out)], 50)
+        for count, kind in [(n, k) for n in options.counts for k in options.kinds]:
+            numbers = f'range(0, {count}){NUMBERS[kind]}'
+            write(file, jobs.cost(f'{numbers}.toArray()', 4).printed[5:-2].replace(', ', '\n') + '\n')
+            for question, ends in QUESTIONS_OF_ORDER.items():
+                stream, words = f'{numbers}.{ends.format(int(count) // 2)}', [kind, question, count]
+                row(f'{question}, {kind}, {count}', [])
+                for workers in (1, 4):
+                    row(f'  here {workers}', jobs.cost(stream, workers, '--language', '3')[:2], 50)
+                by_sort = ['sh', '-c', BY_SORT[question].format(int(count) // 2), 'sh', file]
+                for name, command in {'Java, parallel': java and [*java, *words], 'Rust, one thread': rust and [*rust, *words, '1'],
+                                      'Rust, rayon': rust and [*rust, *words, '4'], 'sort': ['env', 'LC_ALL=C', *by_sort],
+                                      'numpy': numpy and [numpy, os.path.join(HERE, 'sorting', 'by_numpy.py'), *words]}.items():
+                    if command:
+                        row(f'  {name}', jobs.command(command, stream)[:2], 50)
+                if java:
+                    row('  Java, parallel, warm', [float(run([*java, *words, '20'], text=True).out)], 50)
 
 
 def show_turns(turns, commands, ours):
