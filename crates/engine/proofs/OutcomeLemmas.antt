@@ -1,10 +1,9 @@
 -- An input gives one thing.
-use Rattle.std.proofs.Common.{◌≡◌, ◌≢◌, ◌⊎◌, inl, inr, ℕ, Bool, true, false, nat_eq, List, [], ◌∷◌, ◌++◌, ◌&&◌, Option, Some, None, Result, Ok, Err, take, refl, sym, ap, subst, ◌∙◌}
-use Rattle.std.specs.Prelude.{◌||◌, codes, drop, nat_le, unwrap_or, if◌then◌else◌}
-use Rattle.std.specs.List.{list_all, starts_with}
+use Rattle.std.proofs.Common.{◌≡◌, ◌≢◌, ◌⊎◌, inl, inr, ℕ, Bool, true, false, List, [], ◌++◌, ◌&&◌, Option, Some, None, Result, Ok, Err, take, refl, sym, ap, subst, ◌∙◌}
+use Rattle.std.specs.Prelude.{◌||◌, nat_le, if◌then◌else◌}
 use Rattle.stream_tokens.specs.declared.job_text.JobText.{JobText}
 use Rattle.stream_tokens.specs.declared.job_text.TextFault.{TextFault}
-use Rattle.stream_tokens.specs.JobTexts.{NumberedLine, begins_blank, by_kind, job_texts_within, lines_in, named_version, said_version, version_digit, version_in, version_within, without_blanks}
+use Rattle.stream_tokens.specs.JobTexts.{job_texts_within, version_within}
 use Rattle.stream_tokens.proofs.VersionLemmas.{AreAlike, alike}
 use Rattle.columns.specs.declared.fault.ColumnFault.{ColumnFault}
 use Rattle.columns.specs.declared.fault.ColumnFault.TheVariants as column
@@ -20,8 +19,8 @@ use Rattle.job_language.specs.declared.fault.JobFault.{JobFault}
 use Rattle.job_language.specs.Files.{IsRefusedWithin, SpellsJobsWithin}
 use Rattle.job_language.specs.Jobs.{AbstractJob, names_of}
 use Rattle.job_language.proofs.EachFile.{each_file}
+use Rattle.job_language.proofs.EarlyVersions.{version_early}
 use Rattle.job_language.proofs.LaterVersions.{no_earlier, reads_more}
-use Rattle.job_language.proofs.LineKinds.{HasKind, each_kind}
 use Rattle.job_language.proofs.OneFile.{left_once}
 use Rattle.job_meaning.specs.FileAnswers.{meaning_of}
 use Rattle.engine.specs.declared.fault.EngineFault.TheVariants as engine_fault
@@ -103,44 +102,6 @@ same_texts bytes columns jobs h = by_likeness (alike bytes)
     by_likeness (inl is) = absurd (no_earlier bytes columns jobs is h)
     by_likeness (inr (version, texts)) = (sym version, sym texts)
 
--- version 3 isn't said
-abbrev IsEarly : ℕ → Type 0
-IsEarly v = nat_le 3 v ≡ false
-
-abbrev SaysEarly : Option ℕ → Type 0
-SaysEarly o = IsEarly (unwrap_or o 1)
-
-either_early : (b : Bool) (o p : Option ℕ) → SaysEarly o → SaysEarly p → SaysEarly (if b then o else p)
-either_early true o p h k = h
-either_early false o p h k = k
-
-by_both : (b : Bool) → SaysEarly (if b && false then Some 3 else None)
-by_both true = refl
-by_both false = refl
-
-digit_early : (bytes : List ℕ) → SaysEarly (named_version 2 bytes)
-digit_early [] = refl
-digit_early (d ∷ rest) = either_early (list_all _ rest) (version_digit 2 d) None (either_early (nat_eq d 50) (Some 2) _ refl (by_both (nat_eq d 51))) refl
-
-said_early : (line : List ℕ) → SaysEarly (said_version 2 line)
-said_early line =
-    let bytes = without_blanks line in
-    either_early (starts_with nat_eq bytes (codes "version") && begins_blank (drop 7 bytes)) (named_version 2 (without_blanks (drop 7 bytes))) None (digit_early (without_blanks (drop 7 bytes))) refl
-
-by_line : (line : NumberedLine) (lines : List NumberedLine) → HasKind line.bytes → IsEarly (version_in 2 lines) → SaysEarly (said_version 2 line.bytes) → IsEarly (version_in 2 (line ∷ lines))
-by_line line lines (inl e) h s = subst (λ k. IsEarly (by_kind k (version_in 2 lines) 1 (unwrap_or (said_version 2 line.bytes) 1))) (sym e) h
-by_line line lines (inr (inl e)) h s = subst (λ k. IsEarly (by_kind k (version_in 2 lines) 1 (unwrap_or (said_version 2 line.bytes) 1))) (sym e) refl
-by_line line lines (inr (inr e)) h s = subst (λ k. IsEarly (by_kind k (version_in 2 lines) 1 (unwrap_or (said_version 2 line.bytes) 1))) (sym e) s
-
-lines_early : (lines : List NumberedLine) → IsEarly (version_in 2 lines)
-lines_early [] = refl
-lines_early (line ∷ lines) = by_line line lines (each_kind line.bytes) (lines_early lines) (said_early line.bytes)
-
--- where version 2 is the newest, no file is of version 3
-version_below : (bytes : List ℕ) → nat_le 3 (version_within 2 bytes) ≡ false
-unfolding version_within
-version_below bytes = lines_early (lines_in bytes)
-
 either_kept : (named b : Bool) → b ≡ false → (named || (true && b)) ≡ (named || false)
 either_kept named b h = ap (λ (t : Bool). named || (true && t)) h
 
@@ -148,7 +109,7 @@ either_kept named b h = ap (λ (t : Bool). named || (true && t)) h
 names_kept : (table : TableSetting) (form : Form) (bytes : List ℕ) → version_within 2 bytes ≡ version_within 3 bytes → job_texts_within 2 bytes ≡ job_texts_within 3 bytes
     → names_for (record { form = form; newest = 2; table = table }) bytes ≡ names_for (record { form = form; newest = 3; table = table }) bytes
 names_kept table form bytes version texts =
-    let below : nat_le 3 (version_within 3 bytes) ≡ false = ap (nat_le 3) (sym version) ∙ version_below bytes in
+    let below : nat_le 3 (version_within 3 bytes) ≡ false = ap (nat_le 3) (sym version) ∙ version_early bytes in
     ap (λ (c : Bool). if c then names_of_texts (job_texts_within 2 bytes) else []) (sym (either_kept table.only_named (nat_le 3 (version_within 3 bytes)) below))
     ∙ ap (λ (t : Result (List JobText) TextFault). if table.only_named || (true && nat_le 3 (version_within 3 bytes)) then names_of_texts t else []) texts
 

@@ -7,6 +7,7 @@ pub mod EachCut
 pub mod EachFile
 pub mod EachJob
 pub mod EachVerdict
+pub mod EarlyVersions
 pub mod Ends
 pub mod FileLemmas
 pub mod JobCauseLemmas

@@ -1,13 +1,13 @@
 -- Lambdas of versions 1 and 2 look at no places.
-use Rattle.std.proofs.Common.{◌≡◌, ℕ, ℤ, Bool, true, false, ◌&&◌, nat_eq, inl, inr, List, [], ◌∷◌, ◌++◌, length, Option, Some, None, Result, Ok, Err, refl, sym, ap, subst, ◌∙◌}
-use Rattle.std.specs.Prelude.{codes, drop, if◌then◌else◌, nat_le, pos, unwrap_or}
-use Rattle.std.specs.List.{list_all, starts_with}
+use Rattle.std.proofs.Common.{◌≡◌, ℕ, ℤ, Bool, true, false, ◌&&◌, inl, inr, List, [], ◌∷◌, ◌++◌, length, Option, Some, None, Result, Ok, Err, refl, sym, ap, subst, ◌∙◌}
+use Rattle.std.specs.Prelude.{if◌then◌else◌, nat_le, pos}
+use Rattle.std.specs.List.{list_all}
 use Rattle.std.specs.Ordering.{int_eq}
 use Rattle.stream_tokens.specs.declared.job_text.JobText.{JobText}
 use Rattle.stream_tokens.specs.declared.job_text.TextFault.{TextFault}
 use Rattle.stream_tokens.specs.declared.job_text.TextFault.TheVariants as text
 use Rattle.stream_tokens.specs.CutTexts.{TokenizedText}
-use Rattle.stream_tokens.specs.JobTexts.{NumberedLine, begins_blank, by_kind, job_texts_of, lines_in, named_version, said_version, version_digit, version_in, version_of, version_within, without_blanks}
+use Rattle.stream_tokens.specs.JobTexts.{job_texts_of, version_of}
 use Rattle.tables.specs.Table.{NamedColumn}
 use Rattle.lambda_values.specs.declared.lambda.PairForm.{PairForm}
 use Rattle.lambda_values.specs.declared.lambda.PairForm.TheVariants as form
@@ -36,11 +36,11 @@ use Rattle.job_language.specs.Jobs.{AbstractJob, AbstractJobStage, AbstractTermi
 use Rattle.job_language.specs.Causes.{Scope, first_cause, given, goes_over_rows, early_causes, numbers_of, stage_cause}
 use Rattle.job_language.specs.Operators.{is_add_exact, spelled_op}
 use Rattle.job_language.specs.Arguments.{PlacedCall, IsLambdaRead, IsOperatorRead, IsReadBy, after_names, argument_of, column_answer, key_answer, key_in, last_param, last_part, listed, named_causes, name_answer, pair_argument, reads_cells, result_answer, argument_text}
-use Rattle.job_language.specs.Verdicts.{AreRead, BegunJob, IsCallRead, IsJobRead, IsNextCall, IsRead, IsReadAfter, IsReadInTurn, added, below_terminal, call_answer, fallback_below, fallback_for, finished_by, job_named, placed_calls, scope_over, table_of}
+use Rattle.job_language.specs.Verdicts.{AreRead, BegunJob, IsJobRead, IsNextCall, IsRead, IsReadAfter, IsReadInTurn, added, below_terminal, fallback_below, fallback_for, finished_by, job_named, placed_calls, scope_over, table_of}
 use Rattle.job_language.specs.Verdicts as verdict
 use Rattle.job_language.specs.Files.{AreJobsLeft, AreJobsRead, IsNext, scope_below}
 use Rattle.job_language.specs.Parts.{causes_before}
-use Rattle.job_language.proofs.LineKinds.{HasKind, each_kind}
+use Rattle.job_language.proofs.EarlyVersions.{version_early}
 use Rattle.job_language.specs.Places.{ArePlaceless, IsPlaceless, stage_is_placeless, terminal_is_placeless}
 
 -- ---- last parts
@@ -309,44 +309,6 @@ left_plain : (version : ℕ) (columns : List NamedColumn) (jobs : List AbstractJ
 left_plain version columns jobs (Ok ts) early h = texts_plain version columns [] jobs ts early tt h
 left_plain version columns jobs (Err (text.Syntax line)) early h = absurd cc
 left_plain version columns jobs (Err text.NoMemory) early h = absurd h
-
--- ---- the version, where 2 is the newest
-
-abbrev IsEarly : ℕ → Type 0
-IsEarly v = nat_le 3 v ≡ false
-
-abbrev SaysEarly : Option ℕ → Type 0
-SaysEarly o = IsEarly (unwrap_or o 1)
-
-either_early : (b : Bool) (o p : Option ℕ) → SaysEarly o → SaysEarly p → SaysEarly (if b then o else p)
-either_early true o p h k = h
-either_early false o p h k = k
-
-by_both : (b : Bool) → SaysEarly (if b && false then Some 3 else None)
-by_both true = refl
-by_both false = refl
-
-digit_early : (bytes : List ℕ) → SaysEarly (named_version 2 bytes)
-digit_early [] = refl
-digit_early (d ∷ rest) = either_early (list_all _ rest) (version_digit 2 d) None (either_early (nat_eq d 50) (Some 2) _ refl (by_both (nat_eq d 51))) refl
-
-said_early : (line : List ℕ) → SaysEarly (said_version 2 line)
-said_early line =
-    let bytes = without_blanks line in
-    either_early (starts_with nat_eq bytes (codes "version") && begins_blank (drop 7 bytes)) (named_version 2 (without_blanks (drop 7 bytes))) None (digit_early (without_blanks (drop 7 bytes))) refl
-
-by_line : (line : NumberedLine) (lines : List NumberedLine) → HasKind line.bytes → IsEarly (version_in 2 lines) → SaysEarly (said_version 2 line.bytes) → IsEarly (version_in 2 (line ∷ lines))
-by_line line lines (inl e) h s = subst (λ k. IsEarly (by_kind k (version_in 2 lines) 1 (unwrap_or (said_version 2 line.bytes) 1))) (sym e) h
-by_line line lines (inr (inl e)) h s = subst (λ k. IsEarly (by_kind k (version_in 2 lines) 1 (unwrap_or (said_version 2 line.bytes) 1))) (sym e) refl
-by_line line lines (inr (inr e)) h s = subst (λ k. IsEarly (by_kind k (version_in 2 lines) 1 (unwrap_or (said_version 2 line.bytes) 1))) (sym e) s
-
-lines_early : (lines : List NumberedLine) → IsEarly (version_in 2 lines)
-lines_early [] = refl
-lines_early (line ∷ lines) = by_line line lines (each_kind line.bytes) (lines_early lines) (said_early line.bytes)
-
-version_early : (bytes : List ℕ) → IsEarly (version_of bytes)
-unfolding version_within
-version_early bytes = lines_early (lines_in bytes)
 
 pub file_plain : (bytes : List ℕ) (columns : List NamedColumn) (jobs : List AbstractJob) → AreJobsLeft (version_of bytes) columns [] (job_texts_of bytes) (Ok jobs) → ArePlaceless jobs
 file_plain bytes columns jobs h = left_plain (version_of bytes) columns jobs (job_texts_of bytes) (version_early bytes) h

@@ -29,7 +29,7 @@ last_asked m (z ∷ []) (suc i) x y last here gives env t = absurd (omega (arith
 last_asked m (z ∷ w ∷ ls) zero x y last here gives env t = absurd (omega (arith, last))
 last_asked m (z ∷ w ∷ ls) (suc i) x y last here gives env t = last_asked m (w ∷ ls) i x y (omega (arith, last)) here gives env (given_walk (leg_outcome (leg_in z) env t))
 
--- a `limit` of some items of the positions after one needs so many items
+-- a `limit` of `count` items after the first `from` ones needs `from + count` items
 limit_given : (from count : ℕ) (d : Trace) → 0 < count → limited count (windowed from None d) ≡ windowed from None (done_after (Some (from + count)) d)
 limit_given from count d some_there = by (nat_lt (length d.items) (from + count)) refl
   where
