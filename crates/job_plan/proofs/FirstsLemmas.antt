@@ -1,13 +1,10 @@
 -- Parts of firsts that go on, merge, and are settled: by a fault, or since there are enough.
 use Rattle.std.proofs.Common.{◌≡◌, ℕ, Bool, true, false, ◌||◌, [], Option, refl, sym, ap, ◌∙◌}
 use Rattle.lambda_values.specs.Earlier.{Numbers}
-use Rattle.trace.specs.declared.item.Fault.{Fault}
-use Rattle.trace.specs.declared.item.End.{End}
-use Rattle.trace.specs.declared.item.End.TheVariants as end
-use Rattle.trace.specs.Trace.{Trace, append, then_on}
+use Rattle.trace.specs.Trace.{Trace, append}
 use Rattle.early_stop.specs.Leaving.{IsSettled}
 use Rattle.sort_ops.specs.Firsts.{distinct_walk}
-use Rattle.sort_ops.specs.Parts.{AbstractFirsts, AbstractKept, AreFirsts, done_after}
+use Rattle.sort_ops.specs.Parts.{AbstractFirsts, AreFirsts, done_after}
 use Rattle.sort_ops.proofs.KeptFirstsLemmas.{full_settles, stays_faulted, stays_full, faulted_whole}
 use Rattle.job_plan.specs.declared.part.Part.TheVariants as part
 use Rattle.job_plan.specs.Parts.{EndsFor, is_fault}

@@ -1,7 +1,9 @@
 //! What a piece gives to `sorted` at the end of a segment.
 
-ghost use Rattle.std.specs.Prelude.{◌≡◌, IfOk};
-ghost use Rattle.sort_ops.specs.Parts.{sorted_by};
+ghost use Rattle.std.specs.Prelude.{◌≡◌, ℕ, Option, IfOk};
+ghost use Rattle.trace.specs.Trace.{Trace};
+ghost use Rattle.sort_ops.specs.Orders.{sorted_walk};
+ghost use Rattle.sort_ops.specs.Parts.{done_after, least_of};
 ghost use Rattle.job_plan.specs.declared.part.Part.TheVariants as part;
 
 use crate::end_part::{EndPart, LastStage, is_fault};
@@ -40,7 +42,8 @@ impl EndPart for SortedPart {
 
 /// What `sorted` gives of a whole walk.
 pub(crate) fn sorted_walk<'a>(part: SortedPart) -> Result<GivenWalk<'a>, NoMemory>
-    ensures { IfOk result (λ given. given ≡ sorted_by part) }
+    ensures { IfOk result (λ given. (m : Option ℕ) (t : Trace) → part ≡ least_of m t
+        → given ≡ done_after m (sorted_walk t)) }
 {
     let (items, end) = part.finish()?;
     Ok(GivenWalk::items(items, end))

@@ -13,6 +13,7 @@ use Rattle.reduce_ops.specs.Operators.{value_of}
 use Rattle.slice_ops.specs.Slices.{limited, skipped}
 use Rattle.prefix_scan.specs.Prefixes.{Range, ends_after, out_of_array, prefixed, prefixed_to, running}
 use Rattle.sort_ops.specs.Orders.{sorted_to, sorted_walk}
+use Rattle.sort_ops.specs.Parts.{done_after}
 use Rattle.job_language.specs.Jobs.{AbstractPlainSource}
 use Rattle.prefix_walks.specs.Pieces.{elements}
 use Rattle.job_routes.specs.Building.{IsClean}
@@ -56,12 +57,20 @@ clean_sorted t = by t.ending
     by end.Done = λ g h. absurd (let z : end.Done ≡ end.Fault g = h in cc)
     by (end.Fault g) = λ h e. refl
 
+clean_done : (m : Option ℕ) (t : Trace) → IsClean t → IsClean (done_after m t)
+clean_done None t h = h
+clean_done (Some n) t h = by (nat_lt (length t.items) n)
+  where
+    by : (b : Bool) → IsClean (if b then t else trace (take n t.items) end.Done)
+    by true = h
+    by false = λ g e. absurd (let z : end.Done ≡ end.Fault g = e in cc)
+
 -- only `distinct` gives items before a fault
 clean_given : (e : AbstractEnd) (n : ℕ) (env : Numbers) (t : Trace) → ((m : Option ℕ) → e ≡ keeping_firsts m → ⊥) → IsClean (given_walk (ended e n env t))
 clean_given (folding f a counts) n env t other = λ g h. refl
 clean_given (finding d) n env t other = λ g h. refl
 clean_given (scanning f r) n env t other = clean_prefixed (value_of f) r n t
-clean_given sorting n env t other = clean_sorted t
+clean_given (sorting m) n env t other = clean_done m (sorted_walk t) (clean_sorted t)
 clean_given (keeping_firsts m) n env t other = absurd (other m refl)
 clean_given exactly n env t other = λ g h. refl
 clean_given collecting n env t other = λ g h. refl

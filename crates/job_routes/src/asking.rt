@@ -1,4 +1,4 @@
-//! What the end of a route asks of the `distinct` before it.
+//! What the end of a route asks of the `sorted` or the `distinct` before it.
 
 ghost use Rattle.std.specs.Prelude.{◌≡◌, ◌<◌, ◌+◌, ℕ, List, [], None, IfSome, false, true};
 ghost use Rattle.trace.specs.Stages.{stages_of};
@@ -26,8 +26,8 @@ impl Begun {
         None
     }
 
-    /// Asks the `distinct` at the end of the last leg for no more items than a `limit` of this number needs, if only
-    /// maps come between. Whether it did: the walk is then limited.
+    /// Asks the `sorted` or `distinct` at the end of the last leg for no more items than a `limit` of this number
+    /// needs, if only maps come between. Whether it did: the walk is then limited.
     pub(crate) fn ask(&mut self, count: u64) -> bool
         ensures asked { result ≡ true → (env : Numbers) (ss : List AbstractPlainSource)
             → begun_walk self.new env ss ≡ limited count (begun_walk self.old env ss) }

@@ -135,7 +135,18 @@ impl Begun {
         self.scans = Vec::new(self.alloc);
     }
 
-    /// Adds a `limit` that selects no positions. Nothing is walked before `limit(0)`.
+    /// Adds a slice that selects positions, or else one that a walk goes through.
+    fn cut(&mut self, slice: Slice) -> Result<(), NoMemory>
+        requires few { number_after self.old.stages ≤ 32 }
+        ensures { OnOk result (HasNext self.old (sliced (slice_of slice)) self.new) }
+    {
+        match self.selected(&slice) {
+            Some(window) => self.select(window),
+            None => self.link(slice),
+        }
+    }
+
+    /// Adds a `limit`. Nothing is walked before `limit(0)`.
     fn limit(&mut self, count: u64) -> Result<(), NoMemory>
         requires few { number_after self.old.stages ≤ 32 }
         ensures { OnOk result (HasNext self.old (sliced (limit count)) self.new) }
@@ -147,7 +158,7 @@ impl Begun {
         if self.ask(count) {
             return self.select(self.window);
         }
-        self.link(Slice::Limit(count))
+        self.cut(Slice::Limit(count))
     }
 
     /// Adds a slice.
@@ -155,12 +166,9 @@ impl Begun {
         requires few { number_after self.old.stages ≤ 32 }
         ensures { OnOk result (HasNext self.old (sliced (slice_of slice)) self.new) }
     {
-        if let Some(window) = self.selected(&slice) {
-            return self.select(window);
-        }
         match slice {
             Slice::Limit(count) => self.limit(count),
-            other => self.link(other),
+            other => self.cut(other),
         }
     }
 
@@ -222,7 +230,7 @@ impl Begun {
                 let range = positions;
                 self.scan(SegmentEnd::Prefix(Prefix { op, range }))
             }
-            JobStage::Sorted => self.scan(SegmentEnd::Sorted),
+            JobStage::Sorted => self.scan(SegmentEnd::Sorted { most: None }),
             JobStage::Distinct => self.scan(SegmentEnd::Distinct { most: None }),
         }
     }

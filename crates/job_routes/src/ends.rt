@@ -41,8 +41,8 @@ pub enum SegmentEnd {
     Prefix(Prefix),
     /// `reduce(0, Math::addExact)`.
     ExactSum,
-    /// `sorted`.
-    Sorted,
+    /// `sorted`, and how many items are asked for, if not all.
+    Sorted { most: Option<u64> },
     /// `distinct`, and how many items are asked for, if not all.
     Distinct { most: Option<u64> },
 }
@@ -88,7 +88,7 @@ impl SegmentEnd {
             SegmentEnd::Fold(fold) => fold.op.identity().is_some(),
             SegmentEnd::Find(find) => matches!(find, FindTerminal::First),
             SegmentEnd::Array | SegmentEnd::Prefix(_) | SegmentEnd::ExactSum => false,
-            SegmentEnd::Sorted | SegmentEnd::Distinct { .. } => false,
+            SegmentEnd::Sorted { .. } | SegmentEnd::Distinct { .. } => false,
         }
     }
 
@@ -99,18 +99,24 @@ impl SegmentEnd {
         !matches!(self, SegmentEnd::Distinct { .. })
     }
 
-    /// Asks a `distinct` for this number of items at most. Whether it is one.
+    /// Asks a `sorted` or a `distinct` for this number of items at most. Whether it is one of them.
     pub(crate) fn ask(&mut self, enough: u64) -> bool
         ensures asked { result ≡ true → (n : ℕ) (env : Numbers) (t : Trace)
             → given_walk (ended (end_in self.new) n env t)
             ≡ done_after (Some enough) (given_walk (ended (end_in self.old) n env t)) }
         ensures same { result ≡ false → self.new ≡ self.old }
     {
-        let SegmentEnd::Distinct { most } = self else {
-            return false;
-        };
-        *most = Some(at_most(*most, enough));
-        true
+        match self {
+            SegmentEnd::Sorted { most } => {
+                *most = Some(at_most(*most, enough));
+                true
+            }
+            SegmentEnd::Distinct { most } => {
+                *most = Some(at_most(*most, enough));
+                true
+            }
+            _ => false,
+        }
     }
 
     /// Whether it is `findFirst`, which takes one item.

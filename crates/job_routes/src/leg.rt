@@ -41,7 +41,7 @@ impl Leg {
         }
     }
 
-    /// Asks a `distinct` at its end for this number of items at most. Whether there is one.
+    /// Asks a `sorted` or a `distinct` at its end for this number of items at most. Whether there is one of them.
     pub(crate) fn ask(&mut self, enough: u64) -> bool
         ensures asked { result ≡ true → (env : Numbers) (t : Trace)
             → given_walk (leg_outcome (leg_in self.new) env t)

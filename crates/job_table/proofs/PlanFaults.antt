@@ -52,7 +52,7 @@ fold_gives (finding d) n env p t u f g s h = absurd s
 fold_gives collecting n env p t u f g s h = absurd s
 fold_gives exactly n env p t u f g s h = absurd s
 fold_gives (scanning op r) n env p t u f g s h = absurd s
-fold_gives sorting n env p t u f g s h = absurd s
+fold_gives (sorting m) n env p t u f g s h = absurd s
 fold_gives (keeping_firsts m) n env p t u f g s h = absurd s
 
 fold_walk : (e : AbstractEnd) (n : ℕ) (env : Numbers) (p : FoldPart) (t : Trace) (f : Fault) → EndsFor e n env (part.Fold p) t → p.partial.end ≡ end.Fault f → t.ending ≡ end.Fault f
@@ -61,7 +61,7 @@ fold_walk (finding d) n env p t f s h = absurd s
 fold_walk collecting n env p t f s h = absurd s
 fold_walk exactly n env p t f s h = absurd s
 fold_walk (scanning op r) n env p t f s h = absurd s
-fold_walk sorting n env p t f s h = absurd s
+fold_walk (sorting m) n env p t f s h = absurd s
 fold_walk (keeping_firsts m) n env p t f s h = absurd s
 
 -- ---- a walk with a fault in its middle

@@ -1,9 +1,11 @@
 -- The lemmas of this crate; the first line of each file says what they are about.
+pub mod BoundLemmas
 pub mod Choices
 pub mod DistinctLemmas
 pub mod EnoughLemmas
 pub mod FirstLemmas
 pub mod KeptFirstsLemmas
+pub mod LeastLemmas
 pub mod LoopLemmas
 pub mod NewLemmas
 pub mod OrderLemmas

@@ -1,11 +1,11 @@
 //! Laws of the order and of firsts. Each stands on a function that does nothing.
 
-ghost use Rattle.std.specs.Prelude.{◌≡◌, ℤ, List, [], ◌∷◌, ◌++◌, if◌then◌else◌};
+ghost use Rattle.std.specs.Prelude.{◌≡◌, ℕ, ℤ, Option, List, [], ◌∷◌, ◌++◌, if◌then◌else◌};
 ghost use Rattle.lambda_values.specs.declared.item.Item.{Item};
 ghost use Rattle.sort_ops.specs.Firsts.{firsts, is_among};
 ghost use Rattle.sort_ops.specs.Orders.{in_order};
 ghost use Rattle.sort_ops.specs.Parts.{Pieces, Rises, firsts_of, firsts_over, having, merged, order_of, order_over};
-ghost use Rattle.sort_ops.specs.Parts.{values_in, whole};
+ghost use Rattle.sort_ops.specs.Parts.{at_most, values_in, whole};
 
 /// The order of items rises, items with one value stand in it as before, and no other list is like that.
 #[tactic(auto, using(crate::proofs::UniqueLemmas::order_rises, crate::proofs::UniqueLemmas::order_keeps, crate::proofs::UniqueLemmas::only_order))]
@@ -15,10 +15,13 @@ pub fn the_order_is_the_only_one()
     ensures only { (xs ys : List Item) → Rises ys → ((v : ℤ) → having v ys ≡ having v xs) → ys ≡ in_order xs }
 {}
 
-/// Two orders side by side, merged, are the order of both lists, one after the other.
-#[tactic(auto, using(crate::proofs::OrderLemmas::orders_merge))]
+/// Two orders side by side, merged, are the order of both lists, one after the other. The first items of merged lists
+/// are among the first ones of each.
+#[tactic(auto, using(crate::proofs::OrderLemmas::orders_merge, crate::proofs::LeastLemmas::least_merged))]
 pub fn two_orders_merge()
-    ensures { (xs ys : List Item) → merged (in_order xs) (in_order ys) ≡ in_order (xs ++ ys) }
+    ensures order { (xs ys : List Item) → merged (in_order xs) (in_order ys) ≡ in_order (xs ++ ys) }
+    ensures least { (most : Option ℕ) (xs ys : List Item)
+        → at_most most (merged (at_most most xs) (at_most most ys)) ≡ at_most most (merged xs ys) }
 {}
 
 /// For every tree of pieces, orders that are merged up the tree give the order of the whole walk.

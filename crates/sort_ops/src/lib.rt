@@ -4,8 +4,8 @@
 //! describes a piece of a walk, and two parts side by side merge to the part of both (`SortedPart::append` and
 //! `DistinctPart::append`, clause `ok`); `finish` gives what the stage makes of the whole. `laws.rt` says what the
 //! order of items is and what firsts are, and that every tree of pieces gives them. Begin with `specs/Orders.antt`
-//! and `specs/Firsts.antt`, then `merging.rt`, `sorted_part.rt` and `distinct_part.rt`. Not promised: how much of a
-//! part is in order, or was looked up in its set, before `finish`.
+//! and `specs/Firsts.antt`, then `merging.rt`, `runs.rt`, `sorted_part.rt` and `distinct_part.rt`. Not promised: how
+//! much of a part is in order, or was looked up in its set, before `finish`.
 //! Java: `sorted` and `distinct` of `LongStream` (Java SE 17, `java.util.stream`).
 #![tactic(auto)]
 
@@ -15,6 +15,7 @@ mod ends;
 mod laws;
 mod merging;
 mod new_values;
+mod runs;
 mod sorted_part;
 
 pub use distinct_part::DistinctPart;

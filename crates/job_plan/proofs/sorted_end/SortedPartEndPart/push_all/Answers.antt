@@ -11,5 +11,5 @@ returns-clause-ok c =
     let l = c.args.lanes in
     let last = c.args._last in
     on_ok_map c.push_all.result
-    (λ is t. sort_goes_on last.number last.env.now t (trace (laid_items l.start l.places.now l.values.now) end.Done) c.args.self.now c.args.self.now c.push_all.new.self (end_in last.end.now) is)
+    (λ goes. sort_goes_on c.args.self.now c.push_all.new.self (trace (laid_items l.start l.places.now l.values.now) end.Done) goes (end_in last.end.now) last.number last.env.now)
     c.push_all.ensures.ok

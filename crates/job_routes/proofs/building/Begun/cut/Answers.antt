@@ -1,6 +1,6 @@
 use Rattle.slice_ops.specs.Slices.{slice_of}
 use Rattle.job_routes.proofs.BuiltLemmas.{ok_of_four, window_next}
-use Rattle.job_routes.proofs.building.Begun.slice.Goals as goal
+use Rattle.job_routes.proofs.building.Begun.cut.Goals as goal
 
 pub returns-in-Some : goal.returns-in-Some
 returns-in-Some c =
