@@ -10,5 +10,6 @@ pub mod LoopLemmas
 pub mod NewLemmas
 pub mod OrderLemmas
 pub mod PartLemmas
+pub mod PlaceLemmas
 pub mod SortLemmas
 pub mod UniqueLemmas

@@ -3,3 +3,4 @@ pub mod Firsts
 pub mod NewValues
 pub mod Orders
 pub mod Parts
+pub mod Places

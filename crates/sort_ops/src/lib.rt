@@ -15,6 +15,7 @@ mod ends;
 mod laws;
 mod merging;
 mod new_values;
+mod placing;
 mod runs;
 mod sorted_part;
 
