@@ -141,7 +141,7 @@ sums_many (folding f start counts) many = false
 sums_many (finding d) many = false
 sums_many collecting many = false
 sums_many (scanning f r) many = false
-sums_many sorting many = false
+sums_many (sorting most) many = false
 sums_many (keeping_firsts most) many = false
 
 -- whether a segment is walked in order: an exact sum of the many items that one may be made into, where the only end of a
