@@ -1,7 +1,8 @@
 //! A batch of items in registers, and the stages over it.
 
 ghost use Rattle.batch_eval.specs.Batches.{CountsUp, StopsInside, end_after, item_at, lanes};
-ghost use Rattle.batch_eval.specs.Batches.{laid_items, origin_at};
+ghost use Rattle.batch_eval.specs.BatchItems.{laid};
+ghost use Rattle.batch_eval.specs.Batches.{origin_at};
 ghost use Rattle.batch_eval.specs.Lanes.{at};
 ghost use Rattle.batch_eval.specs.Rooms.{Fits};
 ghost use Rattle.lambda_values.specs.Term.{long_of};
@@ -146,7 +147,7 @@ impl Batch {
         requires lanes { length lanes.values.now ≤ 1024 }
         requires room { Fits (long_of image.now) (length room.old) }
         ensures { self.new ≡ each (of_item line.entry.first (abstract_map (long_of image.now)) line.entry.env.now)
-            (laid_items lanes.entry.start lanes.entry.places.now lanes.entry.values.now) End.Done }
+            (laid lanes.entry) End.Done }
     {
         let live = lanes.values.len();
         let inputs = Inputs {
@@ -216,8 +217,7 @@ impl Batch {
     /// Starts again with items that lie elsewhere.
     pub(crate) fn copy(&mut self, lanes: LaneItems<'_>)
         requires { length lanes.values.now ≤ 1024 }
-        ensures { self.new
-            ≡ trace (laid_items lanes.entry.start lanes.entry.places.now lanes.entry.values.now) End.Done }
+        ensures { self.new ≡ trace (laid lanes.entry) End.Done }
     {
         copy_front(lanes.values, &mut self.values);
         lanes.copy_places(&mut self.origins);
@@ -267,7 +267,7 @@ impl Batch {
 
     /// The items, where they lie.
     pub(crate) fn lanes(&self) -> LaneItems<'_>
-        ensures { laid_items result.start result.places.now result.values.now ≡ self.now.items }
+        ensures { laid result ≡ self.now.items }
     {
         LaneItems::front(self.live, self.start, &self.origins, &self.values)
     }

@@ -1,7 +1,6 @@
 //! Items in batches, through the stages and into a sink.
 
-ghost use Rattle.batch_eval.specs.BatchItems.{batch_items};
-ghost use Rattle.batch_eval.specs.Batches.{laid_items};
+ghost use Rattle.batch_eval.specs.BatchItems.{batch_items, laid};
 ghost use Rattle.batch_eval.specs.Pipelines.{piped};
 ghost use Rattle.batch_eval.specs.Rooms.{FitsStages};
 ghost use Rattle.std.specs.Prelude.{◌≡◌, ◌+◌, ◌<◌, ◌≤◌, ◌^◌, List, Ok, OnErr, length, take};
@@ -14,7 +13,8 @@ ghost use Rattle.trace.specs.declared.item.End.TheVariants as end;
 ghost use Rattle.lambda_values.specs.declared.item.Item.{Item};
 
 use crate::batch_items::BatchItems;
-use crate::flagged::give_passing;
+use crate::cheap::stay_in_lanes;
+use crate::flagged::{Tested, give_passing};
 use crate::lane_items::LaneItems;
 use crate::pipeline::Pipeline;
 use crate::register::LANES;
@@ -168,8 +168,8 @@ fn feed_piece<S: BatchSink>(
     }
 }
 
-/// Takes up to 1,024 items whose values lie side by side. A `map` that comes first reads them there, and so do a sink
-/// and the only `filter` before one that takes flags.
+/// Takes up to 1,024 items whose values lie side by side. A `map` that comes first reads them there, and so does a
+/// sink. So do a `filter` that comes first and the `map`s after it, if they are all and the sink takes flags.
 fn feed_in_place<S: BatchSink>(
     line: Pipeline<'_>,
     lanes: LaneItems<'_>,
@@ -180,8 +180,7 @@ fn feed_in_place<S: BatchSink>(
     requires room { FitsStages (stages_of line.stages.now) (length space.old.room.items) }
     requires lanes { length lanes.values.now ≤ 1024 }
     ensures fed { (xs : List Item) → S.has_taken sink.old xs → IsFed S.has_taken xs
-        (piped line.entry (trace (laid_items lanes.entry.start lanes.entry.places.now lanes.entry.values.now) end.Done))
-        result sink.new }
+        (piped line.entry (trace (laid lanes.entry) end.Done)) result sink.new }
     ensures flow { S.flow sink.new ≡ flow_after result }
     ensures refused { OnErr result S.takes_memory }
     ensures room { length space.new.room.items ≡ length space.old.room.items }
@@ -189,9 +188,19 @@ fn feed_in_place<S: BatchSink>(
     let Some((stage, later)) = line.split_first() else {
         return sink.accept_lanes(lanes, &mut space.room);
     };
-    if sink.takes_flags() && later.stages.is_empty() {
-        if let Stage::Filter(test) = stage {
-            return give_passing(test, line, lanes, End::Done, &mut space.room, sink);
+    if let Stage::Filter(test) = stage {
+        let end = End::Done;
+        if sink.takes_flags() && later.stages.is_empty() {
+            let images = lanes;
+            let tested = Tested { lanes, images, end };
+            return give_passing(test, line, tested, &mut space.room, sink);
+        }
+        if stay_in_lanes(later.stages, sink.takes_flags())
+            && space.batch.map_lanes(lanes, later, &mut space.room)
+        {
+            let images = space.batch.lanes();
+            let tested = Tested { lanes, images, end };
+            return give_passing(test, line, tested, &mut space.room, sink);
         }
     }
     let later = space.batch.begin(lanes, line, &mut space.room);

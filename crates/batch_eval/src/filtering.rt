@@ -40,11 +40,11 @@ fn most_are_set(flags: &[i64], live: usize) -> bool
     set >= count as i64 / 2
 }
 
-/// Whether an operand is evaluated at all lanes: it is cheap, and most flags are set or it is wanted whatever they are.
-fn is_worth(operand: Operand<'_>, whatever: bool, flags: &[i64], live: usize) -> bool
+/// Whether an operand is evaluated at all lanes: it is cheap, and all stages stay in lanes or most flags are set.
+fn is_worth(operand: Operand<'_>, in_lanes: bool, flags: &[i64], live: usize) -> bool
     requires { live ≤ length flags.now }
 {
-    is_cheap(operand) && (whatever || most_are_set(flags, live))
+    is_cheap(operand) && (in_lanes || most_are_set(flags, live))
 }
 
 impl Batch {
@@ -79,12 +79,12 @@ impl Batch {
         self.live = reached.live;
     }
 
-    /// Goes through `map`s and `filter`s over all lanes, as long as most flags are set or it is to do so whatever they
-    /// are, an expression is cheap, and no lane has a fault. The result are the stages to come.
+    /// Goes through `map`s and `filter`s over all lanes, as long as all stages stay in lanes or most flags are set, an
+    /// expression is cheap, and no lane has a fault. The result are the stages to come.
     pub(crate) fn sift<'a>(
         &mut self,
         line: Pipeline<'a>,
-        whatever: bool,
+        in_lanes: bool,
         flags: &mut [i64],
         room: &mut [i64],
     ) -> Pipeline<'a>
@@ -103,20 +103,20 @@ impl Batch {
         };
         match line.split_first() {
             Some((Stage::Map(image), later))
-                if is_worth(Operand::Long(image), whatever, flags, self.live) => {
+                if is_worth(Operand::Long(image), in_lanes, flags, self.live) => {
                 if eval_long(image, inputs, &mut self.spare, room).live < self.live {
                     return line;
                 }
                 mem::swap(&mut self.values, &mut self.spare);
-                self.sift(later, whatever, flags, room)
+                self.sift(later, in_lanes, flags, room)
             }
             Some((Stage::Filter(test), later))
-                if is_worth(Operand::Bool(test), whatever, flags, self.live) => {
+                if is_worth(Operand::Bool(test), in_lanes, flags, self.live) => {
                 if eval_bool(test, inputs, &mut self.spare, room).live < self.live {
                     return line;
                 }
                 select(&self.spare, Own, Number(0), self.live, flags);
-                self.sift(later, whatever, flags, room)
+                self.sift(later, in_lanes, flags, room)
             }
             _ => line,
         }

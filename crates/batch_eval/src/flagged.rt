@@ -2,11 +2,14 @@
 //! compares with a number, if it is such a comparison; else it is a boolean.
 
 ghost use Rattle.batch_eval.specs.Batches.{CountsUp, StopsInside, flagged_items, flagged_walk, holds};
-ghost use Rattle.batch_eval.specs.Batches.{item_at, laid_items};
+ghost use Rattle.batch_eval.specs.Batches.{item_at};
+ghost use Rattle.batch_eval.specs.BatchItems.{laid};
 ghost use Rattle.batch_eval.specs.Choices.{at_each};
 ghost use Rattle.batch_eval.specs.Lanes.{Reaches, at, flag_of, flagged};
+ghost use Rattle.batch_eval.specs.Pipelines.{AreImages, piped};
 ghost use Rattle.batch_eval.specs.Rooms.{FitsTest};
 ghost use Rattle.batch_eval.specs.Rows.{HasRows};
+ghost use Rattle.batch_eval.specs.declared.pipeline.Pipeline.{Pipeline as AbstractPipeline};
 ghost use Rattle.lambda_values.specs.Term.{truth_of};
 ghost use Rattle.lambda_values.specs.Value.{truth_value};
 ghost use Rattle.std.specs.Prelude.{◌≡◌, ℕ, ◌+◌, ◌-◌, ◌<◌, ◌≤◌, ◌^◌, List, None, OnErr, Some, length, take};
@@ -79,25 +82,36 @@ pub fn accept_each_flagged<S: LongSink>(
     Ok(Fed::More)
 }
 
-/// Tests lanes, and gives a sink the items at which the test is true. The first register of the room gets the flags.
+/// Items that are tested, their images, and how the walk ends after them.
+#[derive(Clone, Copy)]
+pub(crate) struct Tested<'a> {
+    pub(crate) lanes: LaneItems<'a>,
+    pub(crate) images: LaneItems<'a>,
+    pub(crate) end: End,
+    ghost each_has_one: { length images.values.now ≡ length lanes.values.now },
+}
+
+/// Tests items, and gives a sink the images of those at which the test is true. The first register of the room gets
+/// the flags.
 pub(crate) fn give_passing<S: BatchSink>(
     test: &BoolExpr,
     line: Pipeline<'_>,
-    lanes: LaneItems<'_>,
-    end: End,
+    tested: Tested<'_>,
     room: &mut [i64],
     sink: &mut S,
 ) -> Result<Fed, NoMemory>
-    requires lanes { length lanes.values.now ≤ 1024 }
+    requires lanes { length tested.lanes.values.now ≤ 1024 }
     requires flags { 1024 ≤ length room.old }
     requires room { FitsTest (truth_of test.now) (length room.old - 1024) }
     requires wants { S.flow sink.old ≡ Flow.More }
-    ensures fed { (xs : List Item) → S.has_taken sink.old xs → IsFed S.has_taken xs
-        (each (of_item line.entry.first (filter (truth_of test.now)) line.entry.env.now)
-        (laid_items lanes.entry.start lanes.entry.places.now lanes.entry.values.now) end) result sink.new }
+    ensures fed { (later : AbstractPipeline) → AreImages later (laid tested.entry.lanes) (laid tested.entry.images)
+        → (xs : List Item) → S.has_taken sink.old xs → IsFed S.has_taken xs
+        (piped later (each (of_item line.entry.first (filter (truth_of test.now)) line.entry.env.now)
+        (laid tested.entry.lanes) tested.entry.end)) result sink.new }
     ensures flow { S.flow sink.new ≡ flow_after result }
     ensures refused { OnErr result S.takes_memory }
 {
+    let Tested { lanes, images, end } = tested;
     let inputs = Inputs {
         env: line.env,
         xs: lanes.values,
@@ -115,9 +129,9 @@ pub(crate) fn give_passing<S: BatchSink>(
         reached,
     );
     let flagged = FlaggedLanes {
-        start: lanes.start,
-        origins: lanes.places,
-        values: lanes.values,
+        start: images.start,
+        origins: images.places,
+        values: images.values,
         flags: &flags[..reached.live],
         set,
     };

@@ -1,9 +1,9 @@
 //! The stages that make a batch no longer, over a batch.
 
-ghost use Rattle.batch_eval.specs.Batches.{laid_items};
-ghost use Rattle.batch_eval.specs.Pipelines.{piped, walk_from};
-ghost use Rattle.batch_eval.specs.Rooms.{FitsStages};
-ghost use Rattle.std.specs.Prelude.{◌≡◌, ◌≤◌, IfSome, length, take};
+ghost use Rattle.batch_eval.specs.BatchItems.{laid};
+ghost use Rattle.batch_eval.specs.Pipelines.{AreImages, piped, walk_from};
+ghost use Rattle.batch_eval.specs.Rooms.{FitsEach, FitsStages};
+ghost use Rattle.std.specs.Prelude.{◌≡◌, ◌≤◌, IfSome, IsTrue, length, take};
 ghost use Rattle.trace.specs.Stages.{stages_of};
 ghost use Rattle.trace.specs.Trace.{trace};
 
@@ -13,6 +13,11 @@ use crate::lane_items::LaneItems;
 use crate::pipeline::Pipeline;
 use crate::register::LANES;
 use trace::{End, Stage};
+
+/// Whether all of these stages are `map`s.
+fn are_maps(stages: &[Stage]) -> bool {
+    stages.iter().all(|stage| matches!(stage, Stage::Map(_)))
+}
 
 // Functions of their own keep what is there for each kind of sink small.
 impl Batch {
@@ -27,8 +32,7 @@ impl Batch {
     ) -> Pipeline<'a>
         requires lanes { length lanes.values.now ≤ 1024 }
         requires room { FitsStages (stages_of line.stages.now) (length room.old) }
-        ensures walk { piped result self.new ≡ piped line.entry
-            (trace (laid_items lanes.entry.start lanes.entry.places.now lanes.entry.values.now) End.Done) }
+        ensures walk { piped result self.new ≡ piped line.entry (trace (laid lanes.entry) End.Done) }
         ensures room { FitsStages (stages_of result.stages.now) (length room.old) }
     {
         let Some((Stage::Map(image), later)) = line.split_first() else {
@@ -38,6 +42,48 @@ impl Batch {
         let (_, room) = room.split_at_mut(LANES);
         self.map_from(lanes, image, line, room);
         later
+    }
+
+    /// Starts again with the images of all items that lie elsewhere, by one stage or more. The answer is false if a
+    /// stage isn't a `map` or an item has no image: then the batch has other items.
+    #[inline(never)]
+    pub(crate) fn map_lanes(
+        &mut self,
+        lanes: LaneItems<'_>,
+        line: Pipeline<'_>,
+        room: &mut [i64],
+    ) -> bool
+        requires lanes { length lanes.values.now ≤ 1024 }
+        requires room { FitsStages (stages_of line.stages.now) (length room.old) }
+        ensures images { IsTrue result → AreImages line.entry (laid lanes.entry) self.new.items }
+        ensures count { IsTrue result → length self.new.items ≡ length lanes.entry.values.now }
+    {
+        if !are_maps(line.stages) {
+            return false;
+        }
+        let Some((Stage::Map(image), later)) = line.split_first() else {
+            return false;
+        };
+        let (_, room) = room.split_at_mut(LANES);
+        self.map_from(lanes, image, line, room);
+        self.live == lanes.values.len() && self.map_all(later, room)
+    }
+
+    /// Goes through these `map`s over all items, and answers whether each item has an image.
+    fn map_all(&mut self, line: Pipeline<'_>, room: &mut [i64]) -> bool
+        requires room { FitsEach (stages_of line.stages.now) (length room.old) }
+        ensures images { IsTrue result → AreImages line.entry self.old.items self.new.items }
+        ensures count { IsTrue result → length self.new.items ≡ length self.old.items }
+    {
+        match line.split_first() {
+            Some((Stage::Map(image), later)) => {
+                let live = self.live;
+                self.map(image, line, room);
+                self.live == live && self.map_all(later, room)
+            }
+            Some(_) => false,
+            None => true,
+        }
     }
 
     /// Goes through the stages up to the first `flatMap`, or, for a sink that takes flags, up to a `filter` that comes
@@ -63,8 +109,8 @@ impl Batch {
             }
             Some((Stage::Filter(test), later)) if !takes_flags || !later.stages.is_empty() => {
                 self.flag_lanes(test, line, flags, rest);
-                let whatever = stay_in_lanes(later.stages, takes_flags);
-                let later = self.sift(later, whatever, flags, rest);
+                let in_lanes = stay_in_lanes(later.stages, takes_flags);
+                let later = self.sift(later, in_lanes, flags, rest);
                 if takes_flags && later.stages.is_empty() {
                     return None;
                 }

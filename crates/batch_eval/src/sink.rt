@@ -1,6 +1,7 @@
 //! Sinks that take the items of a batch at once.
 
-ghost use Rattle.batch_eval.specs.Batches.{flagged_items, holds, laid_items};
+ghost use Rattle.batch_eval.specs.BatchItems.{laid};
+ghost use Rattle.batch_eval.specs.Batches.{flagged_items, holds};
 ghost use Rattle.std.specs.Prelude.{◌≡◌, List, OnErr};
 ghost use Rattle.trace.specs.Sinks.{IsFed, flow_after};
 ghost use Rattle.trace.specs.Trace.{trace};
@@ -20,8 +21,7 @@ pub trait BatchSink: LongSink {
     fn accept_lanes(&mut self, lanes: LaneItems<'_>, room: &mut [i64]) -> Result<Fed, NoMemory>
         requires wants { Self.flow self.old ≡ Flow.More }
         ensures fed { (xs : List Item) → Self.has_taken self.old xs → IsFed Self.has_taken xs
-            (trace (laid_items lanes.entry.start lanes.entry.places.now lanes.entry.values.now) end.Done)
-            result self.new }
+            (trace (laid lanes.entry) end.Done) result self.new }
         ensures flow { Self.flow self.new ≡ flow_after result }
         ensures refused { OnErr result Self.takes_memory }
     {

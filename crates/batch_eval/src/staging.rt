@@ -14,7 +14,7 @@ ghost use Rattle.trace.specs.declared.feeding.Fed.TheVariants as fed;
 ghost use Rattle.lambda_values.specs.declared.item.Item.{Item};
 
 use crate::batch::Batch;
-use crate::flagged::{give_passing, give_set};
+use crate::flagged::{Tested, give_passing, give_set};
 use crate::inner_columns::{Columns, column_room, eval_columns};
 use crate::lane_items::LaneItems;
 use crate::pipeline::Pipeline;
@@ -58,7 +58,12 @@ pub(crate) fn feed_batch<S: BatchSink>(
     match stage {
         Stage::Filter(test) if later.stages.is_empty() && sink.takes_flags() => {
             let lanes = LaneItems::front(batch.live, batch.start, &batch.origins, &batch.values);
-            give_passing(test, line, lanes, batch.end, room, sink)
+            let tested = Tested {
+                lanes,
+                images: lanes,
+                end: batch.end,
+            };
+            give_passing(test, line, tested, room, sink)
         }
         Stage::FlatMap(inner) => match nested.split_first_mut() {
             Some((pending, rest)) => {

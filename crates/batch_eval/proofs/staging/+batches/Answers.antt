@@ -11,7 +11,7 @@ use Rattle.trace.specs.Stages.{at_place, filter, flat_map, flattened, of_item}
 use Rattle.lambda_values.specs.Streams.{inner_of, run_or_listed}
 use Rattle.lambda_values.specs.Term.{truth_of}
 use Rattle.batch_eval.specs.Batches.{item_at, laid_items, lanes}
-use Rattle.batch_eval.specs.Pipelines.{piped}
+use Rattle.batch_eval.specs.Pipelines.{AreImages, piped}
 use Rattle.batch_eval.specs.Pours.{Holds}
 use Rattle.batch_eval.proofs.SetItemLemmas.{none_left}
 use Rattle.batch_eval.proofs.WaitingItemLemmas.{holds_none, holds_ended, holds_added, holds_further, flushed, poured_rest, inner_stopped, each_next, each_fault, each_whole}
@@ -33,9 +33,12 @@ feed_batch-returns-in-Filter-clause-fed g t c = λ xs took.
     let l = c.front-lanes.result in
     let f : Item → Trace = of_item c.in-Some.line.first (filter (truth_of c.in-Filter.test)) c.in-Some.line.env.now in
     let items : laid_items l.start l.places.now l.values.now ≡ lanes b.live (item_at b.start b.origins.items b.values.items) = c.front-lanes.ensures.items ∙ rw (c.deref.ensures.value, c.deref-in-Filter.ensures.value) refl in
-    let fed = subst (λ (ys : List Item). IsFed h xs (each f ys b.end) c.give_passing.result c.give_passing.new.sink) items (c.give_passing.ensures.fed xs took) in
+    let later = c.in-Some-split_first.later in
+    let last : later.stages.now ≡ [] = none_left later.stages.now (sym c.is_empty.ensures ∙ c.if-is_empty.true) in
+    let none : AreImages later (laid_items l.start l.places.now l.values.now) (laid_items l.start l.places.now l.values.now) = λ flags e. rw last refl in
+    let given = rw last at (c.give_passing.ensures.fed later none xs took) in
+    let fed = subst (λ (ys : List Item). IsFed h xs (each f ys b.end) c.give_passing.result c.give_passing.new.sink) items given in
     let here = subst (λ (u : Trace). IsFed h xs (each f u.items u.ending) c.give_passing.result c.give_passing.new.sink) c.batch.view_is fed in
-    let last = none_left c.in-Some-split_first.later.stages.now (sym c.is_empty.ensures ∙ c.if-is_empty.true) in
     rw (sym c.in-Some.ensures.walk) (rw (split.stages, c.in-Filter.is, last) here)
 
 pub finish-returns-clause-fed : goal.finish-returns-clause-fed
