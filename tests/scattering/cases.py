@@ -75,6 +75,8 @@ MERGED = [
     ('s = column("a").map(x -> 1 / x).toArray()', '3,2',
      ['[{"array":[1,0,0],"name":"s"}]', '[{"fault":"divide-by-zero","item":1,"name":"s","stage":1}]'],
      's = fault divide-by-zero stage 1 item 4'),
+    ('s = column("a").toArray()', '1,2', ['[{"array":[-9223372036854775808],"name":"s"}]', '[{"array":[9223372036854775807,0],"name":"s"}]'],
+     's = [-9223372036854775808, 9223372036854775807, 0]'),
     ('s = column("a").toArray()', '2,0,1', ['[{"array":[1,-2],"name":"s"}]', '[{"array":[],"name":"s"}]', '[{"array":[3],"name":"s"}]'],
      's = [1, -2, 3]'),
     ('s = column("a").map(x -> 1 / x).findFirst()', '2,2',
@@ -116,13 +118,18 @@ NOT_MERGED = [
     (SUM, '1,1', [ONE, '[{"name":"t","number":1}]'], 1, 'LAST: no answer of s at its place'),
     (SUM, '1,1', [ONE, '[]'], 1, 'LAST: no answer of s at its place'),
     (SUM, '1,1', [ONE, '[{"name":"s","number":1},{"name":"t","number":1}]'], 1, 'LAST: more answers than jobs'),
+    ('# none', '1', ['[{"name":"t","number":1}]'], 1, 'LAST: more answers than jobs'),
+    (SUM, '1,1', [ONE, '[{"array":[],"name":"t"}]'], 1, 'LAST: no answer of s at its place'),
+    (SUM, '1,1', [ONE, '[{"fault":"overflow","item":null,"name":"t","stage":1}]'], 1, 'LAST: no answer of s at its place'),
+    (SUM + '\nt = of(1).sum()', '1', [ONE], 1, 'LAST: no answer of t at its place'),
     (SUM, '1,1', [ONE, '[{"name":"s","optional":1}]'], 1, 'LAST: s can\'t have this answer'),
     (SUM, '1,1', [ONE, '[{"fault":"divide-by-zero","item":1,"name":"s","stage":1}]'], 1, 'LAST: s can\'t have this answer'),
     *((SUM, '1,1', [ONE, report], 1, 'LAST: no report of streamrun --json') for report in (
         '', 's = 1', '[{"name":"s","number":1}', '[{"name": "s","number":1}]', '[{"number":1,"name":"s"}]', '[{"name":"s","number":1.0}]',
         '[{"name":"s","number":9223372036854775808}]', '[{"name":"s","number":01}]', '[{"name":"s","number":1,"optional":2}]',
         '[{"fault":"overrun","item":0,"name":"s","stage":1}]', '[{"fault":"overflow","name":"s","stage":1}]', '[{"name":"s","unusable":"t"}]',
-        '[{"name":"s"}]', '{}', '[1]', '[{"name":"s","number":1}]\n', '[{"array":[1, 2],"name":"s"}]', '[{"name":"\\u0073","number":1}]')),
+        '[{"name":"s"}]', '[{"name":"s","number":-0}]', '[{"name":"s","number":+1}]', '[{"name":"s","number":1},]', '[{"array":[1,],"name":"s"}]',
+        '[{"name":"s","number":1}]]', '{}', '[1]', '[{"name":"s","number":1}]\n', '[{"array":[1, 2],"name":"s"}]', '[{"name":"\\u0073","number":1}]')),
     ('s = column("a").limit(2).sum()', '1', [ONE], 1, 'JOBS: s can\'t be merged: a stage over a column that isn\'t map, filter or flatMap'),
     ('s = concat(of(1), column("a")).sum()', '1', [ONE], 1, 'JOBS: s can\'t be merged: concat with a column'),
     ('s = column("a").reduce(0, Math::addExact)', '1', [ONE], 1, 'JOBS: s can\'t be merged: an exact sum of a column'),
@@ -248,7 +255,8 @@ def processes(test, folder):
     columns, jobs = write(folder, 'table.csv', TABLE), write(folder, 'jobs', b's = column("a").sum()\n')
     other = write(folder, 'other.csv', b'a,c\n1,2\n')
     begin = ['run', '--parts', 2, '--program', test.program, '--merger', test.merger, '--columns']
-    missing = 'streamrun: /none: No such file or directory (os error 2)'
+    nowhere = '/none: No such file or directory (os error 2)'
+    missing = f'streamrun: {nowhere}'
     a_folder = f'streamrun: {folder}: Is a directory (os error 21)'
     parts = os.path.join(folder, 'parts')
     test.expect('cut', real('cut', '--parts', 3, columns, parts) == (b'2,1,1\n', b'', 0), os.listdir(parts))
@@ -280,8 +288,8 @@ def processes(test, folder):
     report = write(folder, 'report', f'{ONE}\n'.encode())
     with open('/dev/full', 'wb') as full:
         for name, words, status, line, more in [
-                ('no job file to merge', ['/none', report], 4, 'cannot open /none', {}),
-                ('no report', [jobs, '/none'], 4, 'cannot open /none', {}),
+                ('no job file to merge', ['/none', report], 4, f'cannot open {nowhere}', {}),
+                ('no report', [jobs, '/none'], 4, f'cannot open {nowhere}', {}),
                 ('a folder as a report', [jobs, folder], 4, f'{folder}: read failed', {}),
                 ('a merge to a full disk', [jobs, report], 4, 'write failed after 0 bytes', {'stdout': full}),
                 ('a name that is no text', [jobs, b'\xff'], 2, 'an argument is no text', {})]:

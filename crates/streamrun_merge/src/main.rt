@@ -136,8 +136,8 @@ fn opened(rt: &HostRuntime, path: &str) -> Result<Counted<File>, Ending> {
     let file = match fs::open(rt, path) {
         Ok(file) => file,
         Err(error) if error.kind() == ErrorKind::OutOfMemory => return Err(Ending::NoMemory),
-        Err(_) => {
-            let _ = writeln!(rt.stderr(), "streamrun-merge: cannot open {path}");
+        Err(error) => {
+            let _ = writeln!(rt.stderr(), "streamrun-merge: cannot open {path}: {error}");
             return Err(Ending::Said(NOT_OPENED));
         }
     };
