@@ -1,7 +1,13 @@
 mod NamedColumns
 mod ReadLemmas
+mod KindLemmas
 mod MergedLemmas
 mod NamedAnswers
+mod NumbersLemmas
+mod ObjectLemmas
+mod ObjectTexts
 mod ReportLemmas
+mod RestLemmas
+mod TakenLemmas
 mod UniqueReports
 mod RefusalLemmas

@@ -153,7 +153,7 @@ same_optional (Some y) (Some z) ho hp e = ap Some (same_integer y z ho hp e)
 same_fault : (f g : Fault) → f.kind ≡ g.kind → f.stage ≡ g.stage → f.origin ≡ g.origin → f ≡ g
 same_fault f g k s o = λ i. record { kind = k i; stage = s i; origin = o i }
 
-same_first : (names : List (List ℕ)) (y z : ℕ) → IsFirst names y → IsFirst names z → slice_index_or names y [] ≡ slice_index_or names z [] → y ≡ z
+pub same_first : (names : List (List ℕ)) (y z : ℕ) → IsFirst names y → IsFirst names z → slice_index_or names y [] ≡ slice_index_or names z [] → y ≡ z
 same_first names y z ha hb e =
     let left : y < z → ⊥ = λ h. hb y h e in
     let right : z < y → ⊥ = λ h. ha z h (sym e) in

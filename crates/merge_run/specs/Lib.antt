@@ -1,4 +1,6 @@
 -- Condition: the files of this crate's definitions; the first line of each says what it is.
 pub mod Merged
+pub mod Objects
 pub mod Run
 pub mod Small
+pub mod Taken

@@ -13,7 +13,7 @@ use Rattle.merge_run.specs.declared.fault.ReportMergeFault.TheVariants.{Jobs, Un
 use Rattle.merge_run.specs.declared.fault.PartCause.{PartCause}
 use Rattle.merge_run.specs.declared.fault.PartCause.TheVariants.{NoReport, Missing, MoreJobs, Impossible, Differs}
 use Rattle.merge_run.specs.declared.part_report.PartReport.{PartReport}
-use Rattle.merge_run.specs.Small.{ArePartsSmall}
+use Rattle.merge_run.specs.Small.{ArePartsSmall, IsReportOfNone}
 use Rattle.report.specs.Json.{report_json}
 use Rattle.report.specs.Reports.{IsReport, form_for, report_in}
 use Rattle.report_merge.specs.declared.fault.MergeFault.{MergeFault}
@@ -91,13 +91,23 @@ pub record HasUnmergeable (jobs : List AbstractJob) (name : List ℕ) (reason : 
   pub first : first_unmergeable jobs ≡ Some (place, reason)
   pub named : slice_index_or (names_of jobs) place [] ≡ name
 
--- the report with this index says answers of which that of the job with this name is the first one that can't be its own
-pub record HasImpossible (jobs : List AbstractJob) (reports : List PartReport) (number : ℕ) (name : List ℕ) : Type 0 where
+-- this is the report with this index
+pub record IsReportAt (reports : List PartReport) (number : ℕ) (report : PartReport) : Type 0 where
   pub before : List PartReport
-  pub report : PartReport
   pub later : List PartReport
   pub all : reports ≡ before ++ report ∷ later
   pub number_is : number ≡ length before
+
+-- the report with this index is no report as JSON of answers of these jobs
+pub record HasNoReport (jobs : List AbstractJob) (reports : List PartReport) (number : ℕ) : Type 0 where
+  pub report : PartReport
+  pub at : IsReportAt reports number report
+  pub none : IsReportOfNone (names_of jobs) report.bytes.items
+
+-- the report with this index says answers of which that of the job with this name is the first one that can't be its own
+pub record HasImpossible (jobs : List AbstractJob) (reports : List PartReport) (number : ℕ) (name : List ℕ) : Type 0 where
+  pub report : PartReport
+  pub at : IsReportAt reports number report
   pub part : Part
   pub read : IsReportOf (names_of jobs) report part
   pub place : ℕ
@@ -123,12 +133,11 @@ pub record HasJob (jobs : List AbstractJob) (name : List ℕ) : Type 0 where
   pub within : place < length (names_of jobs)
   pub named : slice_index_or (names_of jobs) place [] ≡ name
 
--- why the report with this index isn't merged. Of bytes that are no report of these jobs it isn't said which they are, but
--- that they are those of a report, and that an answer which isn't at its place is the answer of one of the jobs
+-- why the report with this index isn't merged
 abbrev pub IsPartRefused : List AbstractJob → List PartReport → ℕ → PartCause → Type 0
-IsPartRefused jobs reports part NoReport = part < length reports
-IsPartRefused jobs reports part (Missing name) = (part < length reports) × HasJob jobs name
-IsPartRefused jobs reports part MoreJobs = part < length reports
+IsPartRefused jobs reports part NoReport = HasNoReport jobs reports part
+IsPartRefused jobs reports part (Missing name) = HasNoReport jobs reports part × HasJob jobs name
+IsPartRefused jobs reports part MoreJobs = HasNoReport jobs reports part
 IsPartRefused jobs reports part (Impossible name) = HasImpossible jobs reports part name
 IsPartRefused jobs reports part (Differs name) = AreDifferent jobs reports
 

@@ -1,9 +1,9 @@
 //! The report of a whole table, from the reports of its parts.
-ghost use Rattle.std.specs.Prelude.{◌≡◌, ◌<◌, ℕ, [], All, IfErr, IfOk, List, None, length, slice_index_or};
+ghost use Rattle.std.specs.Prelude.{◌≡◌, ◌≢◌, ◌<◌, ℕ, [], All, IfErr, IfOk, List, None, length, slice_index_or};
 ghost use Rattle.job_language.specs.Jobs.{jobs_of, names_of};
 ghost use Rattle.merge_run.specs.declared.part_report.PartReport.{PartReport as meant_report};
 ghost use Rattle.merge_run.specs.Merged.{ArePossible, AreReportsOf, IsMerged, IsMergeOf, IsMergeRefusal, IsRefusalOf};
-ghost use Rattle.merge_run.specs.Merged.{called};
+ghost use Rattle.merge_run.specs.Merged.{HasNoReport, called};
 ghost use Rattle.merge_run.specs.Small.{ArePartsSmall};
 ghost use Rattle.report.specs.Named.{IsNamed, IsText};
 ghost use Rattle.report.specs.Reports.{report_in};
@@ -116,7 +116,7 @@ fn answers_of(
     names: &[Bytes],
     parts: Vec<PartReport>,
 ) -> Result<Vec<PartAnswers>, ReportMergeFault>
-    requires text { All IsText names.now }
+    requires named { All IsName names.now }
     requires names { names.now ≡ names_of (jobs_of jobs.now) }
     ensures read { IfOk result (λ found. AreReportsOf names.now parts.items (parts_of found.items)) }
     ensures named { IfOk result (λ found. All (λ part. All (IsNamed names.now) part.answers.items) found.items) }
@@ -181,7 +181,8 @@ fn part_fault(
     fault: ReportFault,
 ) -> Result<ReportMergeFault, NoMemory>
     requires { (job : ℕ) → fault ≡ ReportFault.OtherJobs job → job < length (names_of (jobs_of jobs.now)) }
-    ensures { IfOk result (λ refusal. (reports : List meant_report) → part < length reports
+    ensures { IfOk result (λ refusal. (reports : List meant_report)
+        → (fault ≢ ReportFault.NoMemory → HasNoReport (jobs_of jobs.now) reports part)
         → IsRefusalOf (jobs_of jobs.now) reports refusal) }
 {
     let cause = match fault {

@@ -8,7 +8,7 @@ use Rattle.report_merge.specs.declared.part.PartAnswers.{PartAnswers}
 use Rattle.report_merge.specs.Merging.{Part, part_of, parts_of}
 use Rattle.merge_run.specs.declared.part_report.PartReport.{PartReport}
 use Rattle.merge_run.specs.Merged.{ArePossible, AreReportsOf, IsReportOf}
-use Rattle.merge_run.specs.Small.{ArePartsSmall}
+use Rattle.merge_run.specs.Small.{ArePartsSmall, IsReportOfNone}
 use Rattle.merge_run.proofs.ReportLemmas.{parts_more, parts_small_more, possible_more, reports_more}
 use Rattle.merge_run.proofs.merging.answers_of.Goals as goal
 
@@ -39,14 +39,31 @@ returns-in-Some-2-clause-refused c =
     let part : PartAnswers = record { rows = c.in-Some.part.rows; answers = c.in-Ok.answers } in
     let one : IsReportOf names c.in-Some.part (part_of part) = record { rows = refl; bytes = sym c.deref.ensures.value ∙ c.in-Ok.ensures.written } in
     record {
-      before = c.loop-part.yielded;
       report = c.in-Some.part;
-      later = _;
-      all = sym c.loop-part.invariant.5 ∙ ap (λ (rs : List PartReport). c.loop-part.yielded ++ rs) c.in-Some.ensures.steps.0;
-      number_is = c.len-in-Some-2.ensures ∙ c.loop-part.invariant.3;
+      at = record {
+        before = c.loop-part.yielded;
+        later = _;
+        all = sym c.loop-part.invariant.5 ∙ ap (λ (rs : List PartReport). c.loop-part.yielded ++ rs) c.in-Some.ensures.steps.0;
+        number_is = c.len-in-Some-2.ensures ∙ c.loop-part.invariant.3;
+      };
       part = part_of part;
       read = subst (λ (ns : List (List ℕ)). IsReportOf ns c.in-Some.part (part_of part)) c.requires.names one;
       place = c.in-Some-2.job;
       first = sym c.in_ok-job.ensures ∙ c.in-Some-2.is;
       named = sym c.in_ok-job-2.ensures;
     }
+
+pub returns-in-Err-clause-refused : goal.returns-in-Err-clause-refused
+returns-in-Err-clause-refused c =
+    c.in_ok-part_fault-in-Err.ensures c.args.parts.items
+    (λ known. record {
+      report = c.in-Some.part;
+      at = record {
+        before = c.loop-part.yielded;
+        later = _;
+        all = sym c.loop-part.invariant.5 ∙ ap (λ (rs : List PartReport). c.loop-part.yielded ++ rs) c.in-Some.ensures.steps.0;
+        number_is = c.len.ensures ∙ c.loop-part.invariant.3;
+      };
+      none = subst (λ (ns : List (List ℕ)). IsReportOfNone ns c.in-Some.part.bytes.items) c.requires.names
+          (subst (λ (bs : List ℕ). IsReportOfNone c.args.names.now bs) c.deref.ensures.value (c.in-Err.ensures.none known));
+    })

@@ -11,11 +11,11 @@ use Rattle.merge_run.proofs.NamedAnswers.{length_names, merged_named}
 use Rattle.merge_run.proofs.ReportLemmas.{merge_of}
 use Rattle.merge_run.specs.Merged.{AreReportsOf, IsRefusalOf}
 use Rattle.merge_run.proofs.RefusalLemmas.{refused_by}
+use Rattle.stream_tokens.specs.Forms.{IsName}
 use Rattle.merge_run.proofs.merging.report_of.Goals as goal
 
-pub answers_of-requires-clause-text : goal.answers_of-requires-clause-text
-answers_of-requires-clause-text c =
-    subst (λ (ns : List (List ℕ)). All IsText ns) (sym (c.deref.ensures.value ∙ c.in_ok-names.ensures)) (names_text (names_of (jobs_of c.args.jobs.now)) c.requires.names)
+pub answers_of-requires-clause-named : goal.answers_of-requires-clause-named
+answers_of-requires-clause-named c = subst (λ (ns : List (List ℕ)). All IsName ns) (sym (c.deref.ensures.value ∙ c.in_ok-names.ensures)) c.requires.names
 
 pub printed-requires-clause-text : goal.printed-requires-clause-text
 printed-requires-clause-text c =
