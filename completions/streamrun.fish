@@ -6,7 +6,7 @@ complete -c streamrun -l only-named -d 'Columns that no job names may hold anyth
 complete -c streamrun -l separator -x -a ', \; \| tab' -d 'Sign between cells: , ; | or tab'
 complete -c streamrun -l blank -x -d 'Read an empty cell as this number'
 complete -c streamrun -l workers -x -a '1 4 64' -d 'How many threads run the jobs, 1 to 64'
-complete -c streamrun -l threshold -x -a '1 1024 1048576' -d 'Items per piece, 1 for flatMap, 1 to 1048576'
+complete -c streamrun -l threshold -x -a '1 1024 1048576' -d 'Don'\''t split this many items, 1 to 1048576'
 complete -c streamrun -l nodes -x -a '0 4096 1048576' -d 'Split items at most this often, 0 to 1048576'
 complete -c streamrun -l language -x -a '2 3' -d 'Read job files up to this version, 2 to 3'
 complete -c streamrun -l json -d 'Write the report as JSON'

@@ -24,6 +24,7 @@ mod leaves;
 mod lent_arrays;
 mod lent_part;
 mod likely;
+mod likely_values;
 mod link_sink;
 mod looking;
 mod named;

@@ -9,10 +9,12 @@ ghost use Rattle.job_routes.specs.Legs.{leg_in, leg_at};
 
 use crate::lent_arrays::lent_arrays;
 use crate::likely::likely_size;
+use crate::likely_values::{values_of_any, values_of_some};
 use crate::names::named_in;
 use job_language::{Job, PlainSource};
 use job_meaning::Answer;
 use job_routes::{Fallback, Leg, fallback_of, legs_of};
+use lambda_values::Env;
 use std::alloc::Global;
 use stream_tokens::Bytes;
 use tables::Columns;
@@ -37,6 +39,8 @@ pub struct JobPlan<'c> {
     /// How many positions its first leg has, as far as it is known before a run. For the array of an earlier job it
     /// takes this number of that job. No answer depends on it.
     pub likely_size: u64,
+    /// How many values an item of its first leg becomes, if that is known before a run. No answer depends on it.
+    first_values: Option<u64>,
     pub sources: Vec<PlainSource<'c>>,
     /// The legs that end in prefixes.
     pub scans: Vec<Leg>,
@@ -101,10 +105,18 @@ impl<'c> JobPlan<'c> {
         let (scans, last) = legs_of(alloc, stages, terminal)?;
         let first = scans.first().unwrap_or(&last);
         let likely_size = likely_size(&sources, first.window, before);
+        let stages = &first.last.stages.list;
+        let first_values = if named.is_empty() {
+            let env = Env::over(alloc, table);
+            values_of_some(stages, &sources, first.window.from, likely_size, &env)
+        } else {
+            values_of_any(stages)
+        };
         Ok(JobPlan {
             name,
             named,
             likely_size,
+            first_values,
             sources,
             scans,
             last,
@@ -135,6 +147,15 @@ impl<'c> JobPlan<'c> {
             &self.scans[number]
         } else {
             &self.last
+        }
+    }
+
+    /// How many values an item of the leg with this number becomes, if that is known before a run.
+    pub fn values_of_leg(&self, number: usize) -> Option<u64> {
+        if number == 0 {
+            self.first_values
+        } else {
+            values_of_any(&self.leg(number).last.stages.list)
         }
     }
 

@@ -47,7 +47,9 @@ impl<'a, S: JobSegments, R: RunBrand> JobWork<'a, S, TablePart<S>, TableKept<S>,
             .jobs
             .given(self.alloc, job, &Earlier::in_places(&self.places))
         {
-            Ok(Begun::Walk { given, size }) => keep_given(&self.places, job, given, size),
+            Ok(Begun::Walk { given, size }) => {
+                keep_given(self.alloc, &self.places, job, given, size)
+            },
             Ok(Begun::Known(answer)) => keep_answer(&self.places, gate, job, answer),
             Err(_refused) => {}
         }

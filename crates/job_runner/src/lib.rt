@@ -2,9 +2,9 @@
 //!
 //! `run_all` works out the jobs of a type that implements `JobSegments`, which says how many jobs there are, how a
 //! piece of a segment is walked, how two parts are merged, and what comes of a whole segment. Each job has a start
-//! node. A piece longer than the threshold, and than one of 64 equal pieces for each worker, is cut in two if a node
-//! can be claimed; parts climb in trees of completers. Whoever gets the part of a whole segment leaves its outcome in a
-//! `OnceLock`, and begins the next segment or settles the job.
+//! node. A piece longer than `longest_piece` says is cut in two if a node can be claimed; parts climb in trees of
+//! completers. Whoever gets the part of a whole segment leaves its outcome in a `OnceLock`, and begins the next segment
+//! or settles the job.
 //!
 //! Stands on `completer_tree`, `worker_pool` and `early_stop`, and on `run_settings` for what a run may use. Used by
 //! `job_table`, whose jobs are the jobs of a plan.

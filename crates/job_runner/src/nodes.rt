@@ -1,6 +1,6 @@
 //! How many nodes a run can use.
-ghost use Rattle.std.specs.Prelude.{◌+◌, ◌-◌, ◌^◌, ◌<◌, ◌≤◌, min, ℕ};
-ghost use Rattle.run_settings.specs.SettingsParts.{nodes_of, threshold_of};
+ghost use Rattle.std.specs.Prelude.{◌≡◌, ◌+◌, ◌-◌, ◌^◌, ◌<◌, ◌≤◌, false, min, ℕ};
+ghost use Rattle.run_settings.specs.SettingsParts.{is_free, nodes_of, threshold_of};
 
 use crate::segments::JobSegments;
 use run_settings::Settings;
@@ -10,17 +10,46 @@ use run_settings::Settings;
 /// aren't more.
 const PIECES_FOR_WORKER: u64 = 64;
 
-/// The most pieces that a segment is cut into before some of them are cut once more, since halves differ in length.
-pub(crate) fn pieces_of_segment(settings: Settings) -> u64 {
-    settings.workers().saturating_mul(PIECES_FOR_WORKER)
-}
+/// How many values of inner streams are worth a task as much as a position is: they take less time, and there are few
+/// pieces of so few positions.
+const VALUES_FOR_POSITION: u64 = 16;
+
+/// How many pieces for each worker a segment of few items is cut into, if nobody knows how many values these become.
+const BLIND_PIECES_FOR_WORKER: u64 = 8;
 
 /// The most positions of one of that many equal pieces.
-pub(crate) fn share_of(size: u64, pieces: u64) -> u64
+fn share_of(size: u64, pieces: u64) -> u64
     ensures { 0 < result }
 {
     let before_last = size.saturating_sub(1).checked_div(pieces).unwrap_or(0);
     before_last.saturating_add(1)
+}
+
+/// The most positions of a piece that isn't cut, of a segment of this size whose items become this many values:
+/// `longest`, fewer if the settings are free and the values may be many, and not fewer than one of many equal pieces.
+pub(crate) fn longest_piece(settings: Settings, longest: u64, size: u64, values: Option<u64>) -> u64
+    requires some { 0 < longest }
+    ensures some { 0 < result }
+    ensures bound { is_free settings ≡ false → longest ≤ result }
+{
+    let share = share_of(size, settings.workers().saturating_mul(PIECES_FOR_WORKER));
+    if !settings.is_free() {
+        return longest.max(share);
+    }
+    let threshold = settings.threshold();
+    let few = match values {
+        Some(values) => {
+            let worth = threshold.saturating_mul(VALUES_FOR_POSITION);
+            worth.checked_div(values).unwrap_or(threshold).max(1)
+        }
+        None => share_of(
+            size,
+            settings.workers().saturating_mul(BLIND_PIECES_FOR_WORKER),
+        ),
+    };
+    // A threshold that was doubled for want of nodes doubles these pieces too.
+    let doubled = longest.checked_div(threshold).unwrap_or(1);
+    few.saturating_mul(doubled).min(longest).max(share)
 }
 
 /// How many segments all jobs have together.
@@ -48,27 +77,45 @@ fn cuts_within(size: u64, longest: u64) -> u64 {
     cuts
 }
 
-/// The most nodes that the segments of a job use, of those from this number on, if no piece is longer than `longest`. A
-/// segment that is walked in pieces is taken to have `size` positions at least.
-fn cuts_of_job<S: JobSegments>(jobs: &S, job: usize, from: usize, size: u64, longest: u64) -> u64
-    requires { job < S.run.jobs }
+/// The most nodes that the segments of a job use, of those from this number on, if no piece is longer than
+/// `longest_piece` says. A segment that is walked in pieces is taken to have `size` positions at least.
+fn cuts_of_job<S: JobSegments>(
+    jobs: &S,
+    settings: Settings,
+    job: usize,
+    from: usize,
+    size: u64,
+    longest: u64,
+) -> u64
+    requires job { job < S.run.jobs }
+    requires some { 0 < longest }
 {
     let mut cuts = 0u64;
     for segment in from..=jobs.last_segment(job) {
         let likely = jobs.likely_size(job, segment);
         if likely > 0 {
-            cuts = cuts.saturating_add(cuts_within(likely.max(size), longest));
+            let size = likely.max(size);
+            let values = jobs.likely_values(job, segment);
+            let longest = longest_piece(settings, longest, size, values);
+            cuts = cuts.saturating_add(cuts_within(size, longest));
         }
     }
     cuts
 }
 
-/// The most nodes that the segments of all jobs use, of those from this number on in each job, if no piece is longer
-/// than `longest`.
-fn cuts_of_all<S: JobSegments>(jobs: &S, from: usize, size: u64, longest: u64) -> u64 {
+/// The most nodes that the segments of all jobs use, of those from this number on in each job.
+fn cuts_of_all<S: JobSegments>(
+    jobs: &S,
+    settings: Settings,
+    from: usize,
+    size: u64,
+    longest: u64,
+) -> u64
+    requires some { 0 < longest }
+{
     let mut cuts = 0u64;
     for job in 0..jobs.jobs() {
-        cuts = cuts.saturating_add(cuts_of_job(jobs, job, from, size, longest));
+        cuts = cuts.saturating_add(cuts_of_job(jobs, settings, job, from, size, longest));
     }
     cuts
 }
@@ -80,12 +127,13 @@ pub(crate) fn most_positions<S: JobSegments>(jobs: &S, settings: Settings) -> u6
     ensures some { 0 < result }
     ensures threshold { threshold_of settings ≤ result }
 {
-    let share = share_of(u64::MAX, pieces_of_segment(settings));
-    let nodes = cuts_of_all(jobs, 0, u64::MAX, share).min(settings.nodes());
     let mut longest = settings.threshold();
+    let nodes = cuts_of_all(jobs, settings, 0, u64::MAX, longest).min(settings.nodes());
     for _doubled in 0..64 {
         let twice = longest.saturating_mul(2);
-        if cuts_of_all(jobs, 0, 0, longest) <= nodes || cuts_of_all(jobs, 0, 0, twice) == 0 {
+        if cuts_of_all(jobs, settings, 0, 0, longest) <= nodes
+            || cuts_of_all(jobs, settings, 0, 0, twice) == 0
+        {
             break;
         }
         longest = twice;
@@ -97,12 +145,12 @@ pub(crate) fn most_positions<S: JobSegments>(jobs: &S, settings: Settings) -> u6
 /// longer than `longest` are cut; 2^32 - 1 at most. A later segment may have more positions than the first one, as
 /// `flatMap` makes them, and how many isn't known before it begins.
 pub(crate) fn node_count<S: JobSegments>(jobs: &S, settings: Settings, longest: u64) -> u32
+    requires some { 0 < longest }
     ensures starts { min S.run.jobs (2 ^ 32 - 1) ≤ result }
     ensures few { result ≤ S.run.jobs + nodes_of settings }
 {
-    let share = share_of(u64::MAX, pieces_of_segment(settings));
-    let all = cuts_of_all(jobs, 0, 0, longest)
-        .max(cuts_of_all(jobs, 1, u64::MAX, share))
+    let all = cuts_of_all(jobs, settings, 0, 0, longest)
+        .max(cuts_of_all(jobs, settings, 1, u64::MAX, longest))
         .min(settings.nodes())
         .saturating_add(jobs.jobs() as u64);
     all.min(u64::from(u32::MAX)) as u32

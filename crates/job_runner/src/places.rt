@@ -5,6 +5,7 @@ ghost use Rattle.job_runner.specs.Runs.{first_word, pair_at};
 use crate::NoMemory;
 use crate::piece::{NextSource, SegmentInput};
 use crate::segments::JobSegments;
+use once_cell::race::OnceBox;
 use std::alloc::Global;
 use std::marker::PhantomData;
 use std::sync::{OnceLock, RwLock, RwLockReadGuard};
@@ -53,7 +54,7 @@ pub struct KeptAnswer<S: JobSegments> {
 pub struct JobPlaces<S: JobSegments> {
     pub(crate) job: usize,
     pub(crate) first: u64,
-    pub(crate) given: OnceLock<KeptGiven<S>>,
+    pub(crate) given: OnceBox<KeptGiven<S>>,
     pub(crate) sources: Vec<RwLock<Option<KeptSource<S>>>>,
     pub(crate) answer: OnceLock<KeptAnswer<S>>,
     ghost first_is: { first < 2 ^ 64 - 1 → first ≡ first_word S.run.last job },
@@ -76,7 +77,7 @@ fn places_of_job<S: JobSegments>(
     Ok(JobPlaces {
         job,
         first,
-        given: OnceLock::new(),
+        given: OnceBox::new(alloc),
         sources,
         answer: OnceLock::new(),
     })
@@ -234,8 +235,10 @@ pub(crate) fn input_of<'s, 'i, S: JobSegments, E>(
     })
 }
 
-/// Leaves what a job takes of earlier answers in its place, and how many positions its first segment has.
+/// Leaves what a job takes of earlier answers in its place, and how many positions its first segment has. After a
+/// refused allocation the place stays empty.
 pub(crate) fn keep_given<S: JobSegments>(
+    alloc: Global,
     places: &[JobPlaces<S>],
     job: usize,
     given: S::Given,
@@ -244,13 +247,17 @@ pub(crate) fn keep_given<S: JobSegments>(
     requires given { S.run.is_given job given }
     requires size { size ≡ S.run.size job 0 }
 {
-    if let Some(of_job) = places.get(job) {
-        let _ = of_job.given.try_set(KeptGiven {
-            job,
-            given,
-            size,
-            of: PhantomData,
-        });
+    let Some(of_job) = places.get(job) else {
+        return;
+    };
+    let kept = KeptGiven {
+        job,
+        given,
+        size,
+        of: PhantomData,
+    };
+    if let Ok(kept) = Box::new(alloc, kept) {
+        let _ = of_job.given.set(kept);
     }
 }
 

@@ -67,6 +67,12 @@ pub trait JobSegments {
         requires job { job < run.jobs }
         requires segment { segment ≤ run.last job };
 
+    /// How many values an item of a segment becomes on its way to the segment's end, if that is known before the run.
+    /// No answer depends on it.
+    fn likely_values(&self, job: usize, segment: usize) -> Option<u64>
+        requires job { job < run.jobs }
+        requires segment { segment ≤ run.last job };
+
     /// The result is the job's inputs from earlier jobs, or its answer if nothing is to be walked. `NoMemory` also if
     /// an answer that it names isn't there.
     fn given<E: EarlierAnswers<Self::Answer>>(

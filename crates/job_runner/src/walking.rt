@@ -5,7 +5,7 @@ ghost use Rattle.job_runner.specs.Cuts.{HandedIn, IfMerged, IsPieceOf, StandsWho
 
 use crate::NoMemory;
 use crate::cut::{CutPiece, Join, SegmentPart, TableKept, TablePart, is_left, side_at};
-use crate::nodes::share_of;
+use crate::nodes::longest_piece;
 use crate::parts::part_of;
 use crate::piece::Piece;
 use crate::places::{kept_given, size_of};
@@ -96,14 +96,13 @@ fn longest_of<S: JobSegments, R: RunBrand>(
     work: &TableWork<S, R>,
     job: usize,
     segment: usize,
+    size: u64,
 ) -> u64
     requires known { (job < S.run.jobs) × (segment ≤ S.run.last job) }
     ensures { 0 < result }
 {
-    match size_of(&work.places, job, segment) {
-        Some(size) => work.threshold.max(share_of(size, work.pieces)),
-        None => work.threshold,
-    }
+    let values = work.jobs.likely_values(job, segment);
+    longest_piece(work.settings, work.threshold, size, values)
 }
 
 impl<'a, S: JobSegments, R: RunBrand> JobWork<'a, S, TablePart<S>, TableKept<S>, R> {
@@ -160,7 +159,8 @@ impl<'a, S: JobSegments, R: RunBrand> JobWork<'a, S, TablePart<S>, TableKept<S>,
         ensures { IfSome result (λ whole. StandsWhole S.run (λ x. x.found) whole.job.job whole.segment whole.part) }
     {
         let piece = side_at(&side.half.place);
-        let longest = longest_of(self, piece.job, piece.segment);
+        let size = size_of(&self.places, piece.job, piece.segment).unwrap_or(u64::MAX);
+        let longest = longest_of(self, piece.job, piece.segment, size);
         if piece.to - piece.from <= longest || is_left_out(&mut tools.watch, piece) {
             return leaf(self, side, tools);
         }
@@ -265,7 +265,7 @@ impl<'a, S: JobSegments, R: RunBrand> JobWork<'a, S, TablePart<S>, TableKept<S>,
         requires size { size ≡ R.size begun.job segment }
         ensures { IfSome result (λ whole. StandsWhole S.run (λ x. x.found) whole.job.job whole.segment whole.part) }
     {
-        if size <= self.threshold {
+        if size <= longest_of(self, begun.job, segment, size) {
             return Some(walk_whole(self, begun, segment, size, tools));
         }
         let paid = self.nodes.pay(self.share, begun, &mut tools.spare);

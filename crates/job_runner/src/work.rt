@@ -9,7 +9,7 @@ ghost use Rattle.job_runner.specs.Tasks.{kept_at, node_at};
 
 use crate::NoMemory;
 use crate::cut::{CutPiece, TableKept, TablePart};
-use crate::nodes::{pieces_of_segment, segment_count};
+use crate::nodes::segment_count;
 use crate::opening::{FreshCounts, TableFreshCounts, open_all};
 use crate::places::{JobPlaces, empty_places, kept_answer};
 use crate::run_nodes::RunNodes;
@@ -33,8 +33,7 @@ pub struct JobWork<'a, S: JobSegments, V, K: Fits<V, Tag = CutPiece>, R: RunBran
     pub(crate) nodes: RunNodes<V, K, R>,
     pub(crate) jobs: &'a S,
     pub(crate) threshold: u64,
-    /// The most pieces of a segment that has more positions than it was counted with.
-    pub(crate) pieces: u64,
+    pub(crate) settings: Settings,
     /// What a worker pays for each tree that it begins.
     pub(crate) share: u64,
     pub(crate) places: Vec<JobPlaces<S>>,
@@ -94,7 +93,7 @@ impl<'a, S: JobSegments, R: RunBrand> JobWork<'a, S, TablePart<S>, TableKept<S>,
             },
             jobs,
             threshold: longest,
-            pieces: pieces_of_segment(settings),
+            settings,
             share,
             places,
             stops,

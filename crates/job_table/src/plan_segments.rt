@@ -55,6 +55,10 @@ impl<'a, 'c, P: PlanBrand> JobSegments for PlanJobs<'a, 'c, P> {
         }
     }
 
+    fn likely_values(&self, job: usize, segment: usize) -> Option<u64> {
+        self.job(job).values_of_leg(segment)
+    }
+
     fn given<E: EarlierAnswers<Answer>>(
         &self,
         alloc: Global,

@@ -1,5 +1,5 @@
 -- Meaning: the parts of the settings of a run.
-use Rattle.std.specs.Prelude.{ℕ}
+use Rattle.std.specs.Prelude.{Bool, ℕ}
 use Rattle.run_settings.specs.declared.settings.Form.{Form}
 use Rattle.run_settings.specs.declared.settings.Language.{Language}
 use Rattle.run_settings.specs.declared.settings.Language.TheVariants as language
@@ -11,6 +11,10 @@ workers_of s = s.workers
 
 abbrev pub threshold_of : Settings → ℕ
 threshold_of s = s.threshold
+
+-- whether a run may also cut pieces of no more items than the threshold
+abbrev pub is_free : Settings → Bool
+is_free s = s.is_free
 
 abbrev pub nodes_of : Settings → ℕ
 nodes_of s = s.nodes

@@ -1,6 +1,7 @@
 //! The command line.
 
 use super::table_options::{table_of, with_table};
+use clap::parser::ValueSource;
 use clap::{Arg, ArgAction, ArgMatches, Command, Error, value_parser};
 use run_settings::{Form, Language, Settings};
 use std::alloc::{AllocError, Global};
@@ -124,7 +125,7 @@ fn with_numbers<'a>(alloc: Global, command: Command<'a>) -> Result<Command<'a>, 
         "threshold",
         "1 to 1048576",
         "1024",
-        "Items per piece, 1 for flatMap",
+        "Don't split this many items",
     );
     let command = command.arg(threshold.value_parser(value_parser!(u64).range(1..=1_048_576)))?;
     let nodes = number(
@@ -166,6 +167,10 @@ fn settings_of(matches: &ArgMatches<'_>) -> Option<Settings> {
         matches.get_one::<u64>("nodes")?,
         form,
     )?;
+    let settings = match matches.value_source("threshold")? {
+        ValueSource::DefaultValue => settings.free(),
+        ValueSource::CommandLine => settings,
+    };
     let settings = settings.reading(language_of(matches)?);
     Some(settings.over(table_of(matches)?))
 }

@@ -14,13 +14,13 @@ use std::thread::Threads;
 use tables::Columns;
 
 /// How a job is run, and how it is walked: workers, threshold and nodes, the least and the greatest number of leaves,
-/// and the greatest length of one; then the job, and its answer. With `held` the leaf at position 0 is held until
-/// another one is entered. `chain` is a file of 256 jobs. `worked` are the files of worked answers: each is run as
-/// often as it has leaves, with one after the other held for 1,000 turns, and the numbers are of all that were held.
-/// The answers and the numbers were worked out by hand. No clause says that a piece is walked by a task of its own,
-/// that a piece after the place that decides is left out, that two workers walk at once, that the longest pieces are
-/// cut first, that no exact sum without a fault is walked twice, or that there is credit, or a node, for the last job
-/// of a chain.
+/// and the greatest length of one; then the job, and its answer. With the threshold 0 the settings are free. With
+/// `held` the leaf at position 0 is held until another one is entered. `chain` is a file of 256 jobs. `worked` are the
+/// files of worked answers: each is run as often as it has leaves, with one after the other held for 1,000 turns, and
+/// the numbers are of all that were held. The answers and the numbers were worked out by hand. No clause says that a
+/// piece is walked by a task of its own, that a piece after the place that decides is left out, that two workers walk
+/// at once, that the longest pieces are cut first, that no exact sum without a fault is walked twice, or that there is
+/// credit, or a node, for the last job of a chain.
 const CASES: &str = "\
 1 1000 4096 1 1 1000 => s = range(0, 1000).sum() => 499500
 1 1000 4096 2 2 1000 => s = range(0, 1001).sum() => 500500
@@ -47,6 +47,12 @@ const CASES: &str = "\
 1 1 3 4 4 1024 => s = range(0, 4096).sum() => 8386560
 1 1 63 64 64 64 => s = range(0, 4096).sum() => 8386560
 2 1 4096 2 2 1 held => s = of(1, 2).sum() => 3
+4 1024 4096 1 1 8 => s = range(0, 8).flatMap(x -> range(0, 100000)).sum() => 39999600000
+4 0 4096 8 8 1 => s = range(0, 8).flatMap(x -> range(0, 100000)).sum() => 39999600000
+4 0 3 4 4 2 => s = range(0, 8).flatMap(x -> range(0, 100000)).sum() => 39999600000
+4 0 4096 1 1 8 => s = range(0, 8).flatMap(x -> range(0, 100)).sum() => 39600
+4 0 4096 32 32 32 => s = range(0, 1000).filter(x -> x > 0).flatMap(x -> range(0, x)).sum() => 166167000
+4 0 4096 9 9 8 => s = range(0, 8).prefix(sum).flatMap(x -> range(0, 7 + 0 * x)).sum() => 168
 1 4 4096 4096 4096 4 => chain
 64 4 4096 4096 4096 4 => chain
 1 1 4096 4096 4096 4 => chain
@@ -176,7 +182,10 @@ fn holds<H: Threads + Wait + Sync>(
     table: &str,
 ) -> Result<bool, AllocError> {
     let [workers, threshold, nodes, least, greatest, longest] = numbers_of(case);
-    let settings = settings(workers, threshold, nodes)?;
+    let settings = match threshold {
+        0 => settings(workers, 1024, nodes)?.free(),
+        given => settings(workers, given, nodes)?,
+    };
     if table == "worked" {
         let held = all_held_in_turn(rt, alloc, settings)?;
         return Ok(held.is_some_and(|held| least <= held && held <= greatest));

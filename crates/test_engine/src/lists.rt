@@ -118,6 +118,10 @@ impl<'a, P: JobNumbers + Sync> JobSegments for Lists<'a, P> {
         self.list(job).len() as u64
     }
 
+    fn likely_values(&self, _job: usize, _segment: usize) -> Option<u64> {
+        Some(1)
+    }
+
     fn given<E: EarlierAnswers<Vec<i64>>>(
         &self,
         _alloc: Global,
