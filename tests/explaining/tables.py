@@ -51,6 +51,7 @@ ROWS = [
     ('id,price\n1,\u00a6$12\n2,$7\n', (1, 'price', '$12'), ['no unit']),
     ('id,share\n1,\u00a65%\n', (1, 'share', '5%'), ['no unit']),
     ("id,qty\n1,\u00a6'5'\n", (1, 'qty', "'5'"), ['single']),
+    ('id,n\n1,\u00a61k\n2,3M\n', (1, 'n', '1k'), ['k is 1000', 'M is 1000000']),
     ('id,two words\n1,\u00a6abc\n', (1, 'two words', 'abc'), ['codes']),
     ('\ufeffid,qty\n1,\u00a6abc\n', (1, 'qty', 'abc'), ['codes']),
     ('id,qty\r1,2\r3,\u00a6x\r', (2, 'qty', 'x'), ['codes']),

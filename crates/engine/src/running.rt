@@ -24,9 +24,9 @@ use std::thread::Threads;
 /// builds the report whole and writes it.
 ///
 /// The columns are read and the jobs run on threads, no more than the settings say. A piece of at most the threshold
-/// is never cut, unless the settings are free; a longer one is, while nodes last, unless the walk goes through a slice
-/// that doesn't select positions of the source. The gate is called before each piece, and one that does nothing will
-/// do. None of this changes the report.
+/// is never cut, unless the settings are adaptive; a longer one is, while nodes last, unless the walk goes through a
+/// slice that doesn't select positions of the source. The gate is called before each piece, and one that does nothing
+/// will do. None of this changes the report.
 ///
 /// The column file is read first, and the job file isn't read if it is refused. Where the settings look at named
 /// columns alone or read version 3, the job file says how columns are read: then it is read first, and a column file

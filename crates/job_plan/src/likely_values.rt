@@ -10,15 +10,15 @@ use trace::Stage;
 /// How many items of a source are looked at.
 const LOOKS: u64 = 5;
 
-/// An item on its way through stages.
+/// An item that is taken through stages to see how many values it becomes.
 #[derive(Drop)]
-struct Traveller<'e> {
+struct Sample<'e> {
     item: Item,
     /// The values of names; none if the item isn't known.
     env: Option<&'e Env<'e>>,
 }
 
-impl Traveller<'_> {
+impl Sample<'_> {
     /// The value of an expression, if it is known; 0 after a fault.
     fn value(&self, expr: &LongExpr) -> Option<i64> {
         match (expr, self.env) {
@@ -68,7 +68,7 @@ impl Traveller<'_> {
 
 /// How many values an item becomes in these stages, by the numbers in their lambdas alone.
 pub(crate) fn values_of_any(stages: &[Stage]) -> Option<u64> {
-    let mut any = Traveller {
+    let mut any = Sample {
         item: Item::alone(0),
         env: None,
     };
@@ -109,12 +109,18 @@ pub(crate) fn values_of_some(
     count: u64,
     env: &Env,
 ) -> Option<u64> {
+    if !stages
+        .iter()
+        .any(|stage| matches!(stage, Stage::FlatMap(_)))
+    {
+        return Some(1);
+    }
     let mut values = 0u64;
     for look in 0..LOOKS {
         let further = count.saturating_sub(1).saturating_mul(look) / (LOOKS - 1);
         let origin = first.saturating_add(further);
         if let Some(value) = value_in(sources, origin) {
-            let mut known = Traveller {
+            let mut known = Sample {
                 item: Item { origin, value },
                 env: Some(env),
             };

@@ -1,6 +1,6 @@
 //! How many nodes a run can use.
 ghost use Rattle.std.specs.Prelude.{◌≡◌, ◌+◌, ◌-◌, ◌^◌, ◌<◌, ◌≤◌, false, min, ℕ};
-ghost use Rattle.run_settings.specs.SettingsParts.{is_free, nodes_of, threshold_of};
+ghost use Rattle.run_settings.specs.SettingsParts.{is_adaptive, nodes_of, threshold_of};
 
 use crate::segments::JobSegments;
 use run_settings::Settings;
@@ -10,12 +10,12 @@ use run_settings::Settings;
 /// aren't more.
 const PIECES_FOR_WORKER: u64 = 64;
 
-/// How many values of inner streams are worth a task as much as a position is: they take less time, and there are few
-/// pieces of so few positions.
+/// How many values of inner streams count as one position against the threshold. A value takes less time than a
+/// position, so this is more than 1.
 const VALUES_FOR_POSITION: u64 = 16;
 
 /// How many pieces for each worker a segment of few items is cut into, if nobody knows how many values these become.
-const BLIND_PIECES_FOR_WORKER: u64 = 8;
+const PIECES_IF_UNKNOWN: u64 = 8;
 
 /// The most positions of one of that many equal pieces.
 fn share_of(size: u64, pieces: u64) -> u64
@@ -26,14 +26,15 @@ fn share_of(size: u64, pieces: u64) -> u64
 }
 
 /// The most positions of a piece that isn't cut, of a segment of this size whose items become this many values:
-/// `longest`, fewer if the settings are free and the values may be many, and not fewer than one of many equal pieces.
+/// `longest`, fewer if the settings are adaptive and the values may be many, and not fewer than one of many equal
+/// pieces.
 pub(crate) fn longest_piece(settings: Settings, longest: u64, size: u64, values: Option<u64>) -> u64
     requires some { 0 < longest }
     ensures some { 0 < result }
-    ensures bound { is_free settings ≡ false → longest ≤ result }
+    ensures fixed { is_adaptive settings ≡ false → longest ≤ result }
 {
     let share = share_of(size, settings.workers().saturating_mul(PIECES_FOR_WORKER));
-    if !settings.is_free() {
+    if !settings.is_adaptive() {
         return longest.max(share);
     }
     let threshold = settings.threshold();
@@ -42,10 +43,7 @@ pub(crate) fn longest_piece(settings: Settings, longest: u64, size: u64, values:
             let worth = threshold.saturating_mul(VALUES_FOR_POSITION);
             worth.checked_div(values).unwrap_or(threshold).max(1)
         }
-        None => share_of(
-            size,
-            settings.workers().saturating_mul(BLIND_PIECES_FOR_WORKER),
-        ),
+        None => share_of(size, settings.workers().saturating_mul(PIECES_IF_UNKNOWN)),
     };
     // A threshold that was doubled for want of nodes doubles these pieces too.
     let doubled = longest.checked_div(threshold).unwrap_or(1);

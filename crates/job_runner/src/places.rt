@@ -54,6 +54,7 @@ pub struct KeptAnswer<S: JobSegments> {
 pub struct JobPlaces<S: JobSegments> {
     pub(crate) job: usize,
     pub(crate) first: u64,
+    /// Nobody waits for it, so it is no `OnceLock`: to set one is a call of the system.
     pub(crate) given: OnceBox<KeptGiven<S>>,
     pub(crate) sources: Vec<RwLock<Option<KeptSource<S>>>>,
     pub(crate) answer: OnceLock<KeptAnswer<S>>,

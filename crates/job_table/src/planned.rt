@@ -113,9 +113,9 @@ impl Display for RunFault {
 
 /// The answers of the jobs of a plan, in file order, worked out by no more workers than the settings say.
 ///
-/// Each leaf is entered at the gate. A piece of at most `threshold` items is never cut, unless the settings are free.
-/// An answer that no task left is worked out by the caller, which enters the gate once, for all of the job's source. A
-/// job begins when the jobs that it names have ended.
+/// Each leaf is entered at the gate. A piece of at most `threshold` items is never cut, unless the settings are
+/// adaptive. An answer that no task left is worked out by the caller, which enters the gate once, for all of the job's
+/// source. A job begins when the jobs that it names have ended.
 pub fn run_jobs<H: Threads + Wait + Sync, G: Gate + Sync>(
     rt: &H,
     alloc: Global,

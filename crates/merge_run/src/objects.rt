@@ -148,6 +148,7 @@ fn take_answer<'a>(names: &[Bytes], bytes: &'a [u8]) -> Option<(Answer, &'a [u8]
     Some((Answer::Unusable(place_of(names, name)?), rest))
 }
 
+/// The optional number up to the bracket that ends its object, and what follows it.
 fn take_optional(bytes: &[u8]) -> Option<(Answer, &[u8])>
     ensures complete { (o : Option ℤ) (rest : List ℕ) → OptionFits o → bytes.now ≡ optional_then o rest
         → IsTaken (said.Optional o) rest result }
@@ -160,6 +161,7 @@ fn take_optional(bytes: &[u8]) -> Option<(Answer, &[u8])>
     Some((Answer::Optional(Some(number)), rest))
 }
 
+/// The boolean up to the bracket that ends its object, and what follows it.
 fn take_truth(bytes: &[u8]) -> Option<(Answer, &[u8])>
     ensures complete { (b : Bool) (rest : List ℕ) → bytes.now ≡ truth_then b rest → IsTaken (said.Truth b) rest result }
     ensures truth { IfSome result (λ taken. (b : Bool) × (taken.0 ≡ said.Truth b)) }

@@ -39,6 +39,7 @@ fn text_end(bytes: &[u8]) -> Option<usize>
     bytes.iter().position(|byte| ends_text(*byte))
 }
 
+/// Whether a byte is a quote or a backslash.
 fn ends_text(byte: u8) -> bool
     ensures { result ≡ ends_text byte }
 {
@@ -52,6 +53,7 @@ fn number_end(bytes: &[u8]) -> Option<usize>
     bytes.iter().position(|byte| !is_number_byte(*byte))
 }
 
+/// Whether a byte is a minus sign or a digit.
 fn is_number_byte(byte: u8) -> bool
     ensures { result ≡ is_number_byte byte }
 {
@@ -110,6 +112,7 @@ pub(crate) fn take_last_number(bytes: &[u8]) -> Option<(i64, &[u8])>
     Some((number, after(left, b"}")?))
 }
 
+/// The number of 64 bits that these bytes write.
 fn number_of(digits: &[u8]) -> Option<i64>
     ensures complete { (z : ℤ) → FitsSigned w64 z → digits.now ≡ signed_decimal z → result ≡ Some z }
     ensures small { IfSome result Fits }
@@ -120,6 +123,7 @@ fn number_of(digits: &[u8]) -> Option<i64>
     }
 }
 
+/// The number from 0 on that these bytes write.
 fn count_of(digits: &[u8]) -> Option<u64>
     ensures { (n : ℕ) → n < 2 ^ 64 → digits.now ≡ decimal n → result ≡ Some n }
 {

@@ -13,8 +13,8 @@ abbrev pub threshold_of : Settings → ℕ
 threshold_of s = s.threshold
 
 -- whether a run may also cut pieces of no more items than the threshold
-abbrev pub is_free : Settings → Bool
-is_free s = s.is_free
+abbrev pub is_adaptive : Settings → Bool
+is_adaptive s = s.is_adaptive
 
 abbrev pub nodes_of : Settings → ℕ
 nodes_of s = s.nodes

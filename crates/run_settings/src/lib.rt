@@ -4,7 +4,8 @@
 //! Stands on nothing. Used by `job_runner`, which runs jobs by them, by `columns`, and by whoever asks for a form of
 //! the report. What it promises to its users: `Settings::of`, clauses `taken` and `none`: settings are within their
 //! limits, and each number within its limits is taken; `Settings::reading`: the language alone changes;
-//! `Settings::over`: how the column file is read alone changes; `Settings::free`: whether shorter pieces may be cut.
+//! `Settings::over`: how the column file is read alone changes; `Settings::adaptive`: whether shorter pieces may be
+//! cut.
 //! Begin with `settings.rt` and `specs/Settings.antt`.
 #![tactic(auto)]
 

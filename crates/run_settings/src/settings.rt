@@ -43,7 +43,7 @@ impl Language {
 pub struct Settings {
     workers: u64,
     threshold: u64,
-    is_free: bool,
+    is_adaptive: bool,
     nodes: u64,
     form: Form,
     language: Language,
@@ -52,7 +52,7 @@ pub struct Settings {
 }
 
 impl Settings {
-    ghost use Rattle.run_settings.specs.SettingsParts.{form_of, is_free, language_of, nodes_of, table_of};
+    ghost use Rattle.run_settings.specs.SettingsParts.{form_of, is_adaptive, language_of, nodes_of, table_of};
     ghost use Rattle.run_settings.specs.SettingsParts.{threshold_of, workers_of};
 
     /// These settings, or none if a number is outside its limits.
@@ -61,7 +61,7 @@ impl Settings {
         ensures none { (AreWithin workers threshold nodes → ⊥) → result ≡ None }
         ensures workers { IfSome result (λ settings. workers_of settings ≡ workers) }
         ensures threshold { IfSome result (λ settings. threshold_of settings ≡ threshold) }
-        ensures bound { IfSome result (λ settings. is_free settings ≡ false) }
+        ensures fixed { IfSome result (λ settings. is_adaptive settings ≡ false) }
         ensures nodes { IfSome result (λ settings. nodes_of settings ≡ nodes) }
         ensures form { IfSome result (λ settings. form_of settings ≡ form) }
         ensures language { IfSome result (λ settings. language_of settings ≡ Language.Two) }
@@ -76,7 +76,7 @@ impl Settings {
             Some(Settings {
                 workers,
                 threshold,
-                is_free: false,
+                is_adaptive: false,
                 nodes,
                 form,
                 language: Language::Two,
@@ -88,10 +88,10 @@ impl Settings {
     }
 
     /// These settings, but that a run may also cut pieces of no more items than the threshold, if each may become many.
-    pub fn free(self) -> Settings
+    pub fn adaptive(self) -> Settings
         ensures workers { workers_of result ≡ workers_of self }
         ensures threshold { threshold_of result ≡ threshold_of self }
-        ensures free { is_free result ≡ true }
+        ensures adaptive { is_adaptive result ≡ true }
         ensures nodes { nodes_of result ≡ nodes_of self }
         ensures form { form_of result ≡ form_of self }
         ensures language { language_of result ≡ language_of self }
@@ -100,7 +100,7 @@ impl Settings {
         Settings {
             workers: self.workers,
             threshold: self.threshold,
-            is_free: true,
+            is_adaptive: true,
             nodes: self.nodes,
             form: self.form,
             language: self.language,
@@ -112,7 +112,7 @@ impl Settings {
     pub fn reading(self, language: Language) -> Settings
         ensures workers { workers_of result ≡ workers_of self }
         ensures threshold { threshold_of result ≡ threshold_of self }
-        ensures free { is_free result ≡ is_free self }
+        ensures adaptive { is_adaptive result ≡ is_adaptive self }
         ensures nodes { nodes_of result ≡ nodes_of self }
         ensures form { form_of result ≡ form_of self }
         ensures language { language_of result ≡ language }
@@ -121,7 +121,7 @@ impl Settings {
         Settings {
             workers: self.workers,
             threshold: self.threshold,
-            is_free: self.is_free,
+            is_adaptive: self.is_adaptive,
             nodes: self.nodes,
             form: self.form,
             language,
@@ -133,7 +133,7 @@ impl Settings {
     pub fn over(self, table: TableSetting) -> Settings
         ensures workers { workers_of result ≡ workers_of self }
         ensures threshold { threshold_of result ≡ threshold_of self }
-        ensures free { is_free result ≡ is_free self }
+        ensures adaptive { is_adaptive result ≡ is_adaptive self }
         ensures nodes { nodes_of result ≡ nodes_of self }
         ensures form { form_of result ≡ form_of self }
         ensures language { language_of result ≡ language_of self }
@@ -142,7 +142,7 @@ impl Settings {
         Settings {
             workers: self.workers,
             threshold: self.threshold,
-            is_free: self.is_free,
+            is_adaptive: self.is_adaptive,
             nodes: self.nodes,
             form: self.form,
             language: self.language,
@@ -172,7 +172,7 @@ impl Settings {
         self.workers
     }
 
-    /// The most items of a piece that is not split, unless the run is free: 1 to 1,048,576.
+    /// The most items of a piece that is not split, unless the run is adaptive: 1 to 1,048,576.
     pub fn threshold(&self) -> u64
         ensures value { result ≡ threshold_of self.now }
         ensures limits { (1 ≤ result) × (result ≤ 1048576) }
@@ -181,10 +181,10 @@ impl Settings {
     }
 
     /// Whether a run may also cut pieces of no more items than the threshold.
-    pub fn is_free(&self) -> bool
-        ensures { result ≡ is_free self.now }
+    pub fn is_adaptive(&self) -> bool
+        ensures { result ≡ is_adaptive self.now }
     {
-        self.is_free
+        self.is_adaptive
     }
 
     /// How many nodes there are for splits: 0 to 1,048,576.

@@ -168,7 +168,7 @@ fn settings_of(matches: &ArgMatches<'_>) -> Option<Settings> {
         form,
     )?;
     let settings = match matches.value_source("threshold")? {
-        ValueSource::DefaultValue => settings.free(),
+        ValueSource::DefaultValue => settings.adaptive(),
         ValueSource::CommandLine => settings,
     };
     let settings = settings.reading(language_of(matches)?);

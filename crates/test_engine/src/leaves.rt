@@ -14,10 +14,10 @@ use std::thread::Threads;
 use tables::Columns;
 
 /// How a job is run, and how it is walked: workers, threshold and nodes, the least and the greatest number of leaves,
-/// and the greatest length of one; then the job, and its answer. With the threshold 0 the settings are free. With
-/// `held` the leaf at position 0 is held until another one is entered. `chain` is a file of 256 jobs. `worked` are the
-/// files of worked answers: each is run as often as it has leaves, with one after the other held for 1,000 turns, and
-/// the numbers are of all that were held. The answers and the numbers were worked out by hand. No clause says that a
+/// and the greatest length of one; then the job, and its answer. With the threshold 0 the settings are adaptive.
+/// With `held` the leaf at position 0 is held until another one is entered. `chain` is a file of 256 jobs. `worked` are
+/// the files of worked answers: each is run as often as it has leaves, with one after the other held for 1,000 turns,
+/// and the numbers are of all that were held. The answers and the numbers were worked out by hand. No clause says that a
 /// piece is walked by a task of its own, that a piece after the place that decides is left out, that two workers walk
 /// at once, that the longest pieces are cut first, that no exact sum without a fault is walked twice, or that there is
 /// credit, or a node, for the last job of a chain.
@@ -183,7 +183,7 @@ fn holds<H: Threads + Wait + Sync>(
 ) -> Result<bool, AllocError> {
     let [workers, threshold, nodes, least, greatest, longest] = numbers_of(case);
     let settings = match threshold {
-        0 => settings(workers, 1024, nodes)?.free(),
+        0 => settings(workers, 1024, nodes)?.adaptive(),
         given => settings(workers, given, nodes)?,
     };
     if table == "worked" {
