@@ -17,8 +17,8 @@ use tables::Columns;
 /// and the greatest length of one; then the job, and its answer. With the threshold 0 the settings are adaptive.
 /// With `held` the leaf at position 0 is held until another one is entered. `chain` is a file of 256 jobs. `worked` are
 /// the files of worked answers: each is run as often as it has leaves, with one after the other held for 1,000 turns,
-/// and the numbers are of all that were held. The answers and the numbers were worked out by hand. No clause says that a
-/// piece is walked by a task of its own, that a piece after the place that decides is left out, that two workers walk
+/// and the numbers are of all that were held. The answers and the numbers were worked out by hand. No clause says that
+/// a piece is walked by a task of its own, that a piece after the place that decides is left out, that two workers walk
 /// at once, that the longest pieces are cut first, that no exact sum without a fault is walked twice, or that there is
 /// credit, or a node, for the last job of a chain.
 const CASES: &str = "\
