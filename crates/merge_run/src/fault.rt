@@ -1,6 +1,7 @@
 //! Why reports of parts aren't merged.
 
-ghost use Rattle.std.specs.Prelude.{◌≡◌};
+ghost use Rattle.std.specs.Prelude.{◌≡◌, IfOk, Some};
+ghost use Rattle.merge_run.specs.FaultTexts.{merge_text, part_text};
 ghost use Rattle.merge_run.specs.declared.fault.ReportMergeFault.TheVariants.{NoMemory};
 
 use report_merge::Unmergeable;
@@ -43,13 +44,15 @@ pub enum PartCause {
 }
 
 impl Display for ReportMergeFault {
+    ghost output = { λ fault. Some (merge_text fault) };
+
     fn fmt<W: Write>(&self, f: &mut Formatter<W>) -> fmt::Result {
         match self {
             ReportMergeFault::Jobs { line } => {
                 write!(f, "line {line} is refused; streamrun says why")
             }
             ReportMergeFault::Unmergeable { job, cause } => {
-                write!(f, "{} can't be merged: {cause}", text_of(job))
+                write!(f, "{} can't be merged: {cause}", text_of(job)?)
             }
             ReportMergeFault::NoPart => f.write_str("there is no report"),
             ReportMergeFault::Part { part, cause } => write!(f, "report at index {part}: {cause}"),
@@ -60,26 +63,33 @@ impl Display for ReportMergeFault {
 }
 
 impl Display for PartCause {
+    ghost output = { λ cause. Some (part_text cause) };
+
     fn fmt<W: Write>(&self, f: &mut Formatter<W>) -> fmt::Result {
         match self {
             PartCause::NoReport => f.write_str("no report of streamrun --json"),
-            PartCause::Missing { job } => write!(f, "no answer of {} at its place", text_of(job)),
+            PartCause::Missing { job } => write!(f, "no answer of {} at its place", text_of(job)?),
             PartCause::MoreJobs => f.write_str("more answers than jobs"),
-            PartCause::Impossible { job } => write!(f, "{} can't have this answer", text_of(job)),
+            PartCause::Impossible { job } => write!(f, "{} can't have this answer", text_of(job)?),
             PartCause::Differs { job } => {
                 write!(
                     f,
                     "{} has another answer than in the reports before",
-                    text_of(job)
+                    text_of(job)?
                 )
             }
         }
     }
 }
 
-/// The text of a name; each name is ASCII.
-fn text_of(name: &Bytes) -> &str {
-    str::from_utf8(name.as_slice()).unwrap_or("")
+/// The text of a name. Each name of a job is ASCII; other bytes, if they aren't UTF-8, can't be displayed.
+fn text_of(name: &Bytes) -> Result<&str, fmt::Error>
+    ensures { IfOk result (λ text. text.now ≡ name.now) }
+{
+    match str::from_utf8(name.as_slice()) {
+        Ok(text) => Ok(text),
+        Err(_) => Err(fmt::Error),
+    }
 }
 
 impl From<AllocError> for ReportMergeFault {

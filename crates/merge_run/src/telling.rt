@@ -1,6 +1,8 @@
 //! The line on standard error, and the exit status.
 
-ghost use Rattle.std.specs.Prelude.{◌≡◌};
+ghost use Rattle.std.specs.Io.KnownBytes.{Appends};
+ghost use Rattle.std.specs.Prelude.{◌≡◌, OnOk};
+ghost use Rattle.merge_run.specs.FaultTexts.{line_of, path_of};
 ghost use Rattle.merge_run.specs.Run.{status_after, status_of, status_of_merge};
 
 use crate::fault::ReportMergeFault;
@@ -52,12 +54,15 @@ fn status_of_merge(fault: &ReportMergeFault) -> u8
     }
 }
 
-/// Writes the fault's line: the file that it is about, if it is about one, and its message.
+/// Writes the fault's line: the file that it is about, if it is about one, and its message. After an error some bytes
+/// of it may have gone out.
 fn write_line<W: Write>(
     fault: &MergeRunFault,
     asked: &MergeAsked<'_>,
     writer: &mut W,
-) -> io::Result<()> {
+) -> io::Result<()>
+    ensures { OnOk result (Appends (W.contents writer.old) (W.contents writer.new) (line_of asked.now fault.now)) }
+{
     match fault {
         MergeRunFault::JobsRead => writeln!(writer, "streamrun-merge: {}: read failed", asked.jobs),
         MergeRunFault::ReportRead { part } => {
@@ -80,7 +85,10 @@ fn write_merge_line<W: Write>(
     fault: &ReportMergeFault,
     asked: &MergeAsked<'_>,
     writer: &mut W,
-) -> io::Result<()> {
+) -> io::Result<()>
+    ensures { OnOk result (Appends (W.contents writer.old) (W.contents writer.new)
+        (line_of asked.now (MergeRunFault.Merge fault.now))) }
+{
     match fault {
         ReportMergeFault::Jobs { .. } | ReportMergeFault::Unmergeable { .. } => {
             writeln!(writer, "streamrun-merge: {}: {fault}", asked.jobs)
@@ -96,6 +104,8 @@ fn write_merge_line<W: Write>(
 }
 
 /// The path of the report with this index.
-fn path_of<'a>(asked: &MergeAsked<'a>, part: usize) -> &'a str {
+fn path_of<'a>(asked: &MergeAsked<'a>, part: usize) -> &'a str
+    ensures { result.now ≡ path_of asked.now part }
+{
     asked.reports.get(part).copied().unwrap_or("")
 }
