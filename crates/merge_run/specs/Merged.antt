@@ -16,6 +16,7 @@ use Rattle.merge_run.specs.declared.part_report.PartReport.{PartReport}
 use Rattle.merge_run.specs.Small.{ArePartsSmall, IsReportOfNone}
 use Rattle.report.specs.Json.{report_json}
 use Rattle.report.specs.Reports.{IsReport, form_for, report_in}
+use Rattle.report_merge.specs.Apart.{IsApart}
 use Rattle.report_merge.specs.declared.fault.MergeFault.{MergeFault}
 use Rattle.report_merge.specs.declared.fault.MergeFault.TheVariants as answers_fault
 use Rattle.report_merge.specs.Cuts.{IsCut, all_rows}
@@ -114,13 +115,16 @@ pub record HasImpossible (jobs : List AbstractJob) (reports : List PartReport) (
   pub first : first_impossible jobs part ≡ Some place
   pub named : slice_index_or (names_of jobs) place [] ≡ name
 
--- each report says answers that its jobs can have, but together they aren't merged: a job that reads no column has
--- another answer in one of them
-pub record AreDifferent (jobs : List AbstractJob) (reports : List PartReport) : Type 0 where
+-- each report says answers that its jobs can have, but those of the report with this index can't be merged with those before
+-- it: the job with this name is the first one that has another answer than in them
+pub record HasDifferent (jobs : List AbstractJob) (reports : List PartReport) (number : ℕ) (name : List ℕ) : Type 0 where
   pub parts : List Part
   pub read : AreReportsOf (names_of jobs) reports parts
+  pub small : ArePartsSmall (names_of jobs) parts
   pub possible : ArePossible jobs parts
-  pub none : merged jobs parts ≡ None
+  pub place : ℕ
+  pub apart : IsApart jobs parts number place
+  pub named : slice_index_or (names_of jobs) place [] ≡ name
 
 -- how many rows the parts have
 abbrev pub rows_of : List PartReport → ℕ
@@ -139,7 +143,7 @@ IsPartRefused jobs reports part NoReport = HasNoReport jobs reports part
 IsPartRefused jobs reports part (Missing name) = HasNoReport jobs reports part × HasJob jobs name
 IsPartRefused jobs reports part MoreJobs = HasNoReport jobs reports part
 IsPartRefused jobs reports part (Impossible name) = HasImpossible jobs reports part name
-IsPartRefused jobs reports part (Differs name) = AreDifferent jobs reports
+IsPartRefused jobs reports part (Differs name) = HasDifferent jobs reports part name
 
 -- why there is no report of these jobs
 abbrev pub IsRefusalOf : List AbstractJob → List PartReport → ReportMergeFault → Type 0

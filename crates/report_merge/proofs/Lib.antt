@@ -1,4 +1,5 @@
 pub mod LoopLemmas
+mod ApartLemmas
 mod LaterLemmas
 mod FoldLemmas
 mod AnswerLemmas

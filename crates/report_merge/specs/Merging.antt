@@ -214,10 +214,14 @@ finished jobs (Some p) = with_fallbacks jobs p.answers
 abbrev pub first_part : Part → Option Part
 first_part p = if nat_lt (2 ^ 62) p.rows then None else Some p
 
--- the answers over the table that these are the parts of, in their order; there is at least one
+-- parts, in their order, as one; there is at least one
+abbrev pub together : List AbstractJob → List Part → Option Part
+together jobs [] = None
+together jobs (p ∷ ps) = all_as_one jobs (first_part p) ps
+
+-- the answers over the table that these are the parts of
 abbrev pub merged : List AbstractJob → List Part → Option (List Answer)
-merged jobs [] = None
-merged jobs (p ∷ ps) = finished jobs (all_as_one jobs (first_part p) ps)
+merged jobs ps = finished jobs (together jobs ps)
 
 -- helper: the part that the program has
 abbrev pub part_of : PartAnswers → Part

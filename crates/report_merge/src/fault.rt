@@ -14,8 +14,8 @@ use thiserror::Error;
 pub enum MergeFault {
     /// There is no part.
     NoPart,
-    /// The answers of the part at this index, from 0, aren't of the jobs: the answer of this job, from 0, or their
-    /// number.
+    /// The answers of the part at this index, from 0, can't be merged with those of the parts before it: this job, from
+    /// 0, is the first for which they can't. Of a single part: it hasn't one answer for each job.
     Part { part: usize, job: usize },
     /// There are more than 2^62 rows.
     TooManyRows,

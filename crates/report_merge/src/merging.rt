@@ -4,6 +4,7 @@ ghost use Rattle.std.specs.Prelude.{◌≡◌, ◌≢◌, ◌⊎◌, ◌≤◌, 
 ghost use Rattle.columns.specs.TableForms.{AbstractForm};
 ghost use Rattle.job_language.specs.Jobs.{AbstractJob, jobs_of, names_of};
 ghost use Rattle.job_meaning.specs.FileAnswers.{meaning_of};
+ghost use Rattle.report_merge.specs.Apart.{IsRefusal, IsRefusedAt, first_apart, first_unpaired};
 ghost use Rattle.report_merge.specs.Cuts.{IsCut};
 ghost use Rattle.report_merge.specs.Mergeable.{first_unmergeable};
 ghost use Rattle.report_merge.specs.Merging.{answers_beside, as_one, first_part, merged, part_of};
@@ -33,7 +34,8 @@ fn answers_beside(
         answers_beside (jobs_of jobs.now) before right.now.rows left.items right.now.answers.items ≡ Some both.items) }
     ensures refused { IfErr result (λ fault. fault ≢ MergeFault.NoMemory →
         answers_beside (jobs_of jobs.now) before right.now.rows left.items right.now.answers.items ≡ None) }
-    ensures part { IfErr result (λ fault. (fault ≢ MergeFault.NoPart) × (fault ≢ MergeFault.TooManyRows)) }
+    ensures at { IfErr result (IsRefusedAt number (before + right.now.rows) (first_apart 0 (jobs_of jobs.now) before
+        right.now.rows left.items right.now.answers.items)) }
 {
     let others = right.answers.as_slice();
     let mut both = Vec::new(alloc);
@@ -66,21 +68,21 @@ fn as_one(
     jobs: &[Job],
     left: PartAnswers,
     number: usize,
-    right: &PartAnswers,
+    right: PartAnswers,
 ) -> Result<PartAnswers, MergeFault>
     ensures ok { IfOk result (λ both.
-        as_one (jobs_of jobs.now) (part_of left) (part_of right.now) ≡ Some (part_of both)) }
+        as_one (jobs_of jobs.now) (part_of left) (part_of right) ≡ Some (part_of both)) }
     ensures refused { IfErr result (λ fault. fault ≢ MergeFault.NoMemory →
-        as_one (jobs_of jobs.now) (part_of left) (part_of right.now) ≡ None) }
-    ensures sum { IfOk result (λ both. both.rows ≡ left.rows + right.now.rows) }
-    ensures part { IfErr result (λ fault. fault ≢ MergeFault.NoPart) }
-    ensures rows { IfErr result (λ fault. fault ≡ MergeFault.TooManyRows → 2 ^ 62 < left.rows + right.now.rows) }
+        as_one (jobs_of jobs.now) (part_of left) (part_of right) ≡ None) }
+    ensures sum { IfOk result (λ both. both.rows ≡ left.rows + right.rows) }
+    ensures at { IfErr result (IsRefusedAt number (left.rows + right.rows) (first_apart 0 (jobs_of jobs.now)
+        left.rows right.rows left.answers.items right.answers.items)) }
 {
     if left.rows > MAX_ROWS || right.rows > MAX_ROWS - left.rows {
         return Err(MergeFault::TooManyRows);
     }
     let rows = left.rows + right.rows;
-    let answers = answers_beside(alloc, jobs, left.rows, left.answers, number, right)?;
+    let answers = answers_beside(alloc, jobs, left.rows, left.answers, number, &right)?;
     Ok(PartAnswers { rows, answers })
 }
 
@@ -94,7 +96,7 @@ fn with_fallbacks(
     ensures ok { IfOk result (λ all. with_fallbacks (jobs_of jobs.now) answers.items ≡ Some all.items) }
     ensures refused { IfErr result (λ fault. fault ≢ MergeFault.NoMemory →
         with_fallbacks (jobs_of jobs.now) answers.items ≡ None) }
-    ensures part { IfErr result (λ fault. (fault ≢ MergeFault.NoPart) × (fault ≢ MergeFault.TooManyRows)) }
+    ensures at { IfErr result (IsRefusedAt number 0 (first_unpaired 0 (jobs_of jobs.now) answers.items)) }
 {
     let mut all = Vec::new(alloc);
     let mut job = 0;
@@ -128,15 +130,14 @@ fn merged(alloc: Global, jobs: &[Job], parts: Vec<PartAnswers>) -> Result<Vec<An
     ensures ok { IfOk result (λ answers. merged (jobs_of jobs.now) (parts_of parts.items) ≡ Some answers.items) }
     ensures refused { IfErr result (λ fault. fault ≢ MergeFault.NoMemory →
         merged (jobs_of jobs.now) (parts_of parts.items) ≡ None) }
-    ensures no_part { IfErr result (λ fault. fault ≡ MergeFault.NoPart → parts_of parts.items ≡ []) }
-    ensures rows { IfErr result (λ fault. fault ≡ MergeFault.TooManyRows → 2 ^ 62 < rows_in (parts_of parts.items)) }
+    ensures says { IfErr result (IsRefusal (jobs_of jobs.now) (parts_of parts.items)) }
 {
     let mut whole: Option<PartAnswers> = None;
     let mut number = 0usize;
     for part in parts {
         whole = match whole {
             None => Some(first_part(part)?),
-            Some(left) => Some(as_one(alloc, jobs, left, number, &part)?),
+            Some(left) => Some(as_one(alloc, jobs, left, number, part)?),
         };
         number = number.saturating_add(1);
     }
@@ -162,8 +163,8 @@ pub fn merge(
         merged (jobs_of jobs.now) (parts_of parts.items) ≡ Some answers.items) }
     ensures refused { IfErr result (λ fault. fault ≢ MergeFault.NoMemory →
         merged (jobs_of jobs.now) (parts_of parts.items) ≡ None) }
-    ensures no_part { IfErr result (λ fault. fault ≡ MergeFault.NoPart → parts_of parts.items ≡ []) }
-    ensures rows { IfErr result (λ fault. fault ≡ MergeFault.TooManyRows → 2 ^ 62 < rows_in (parts_of parts.items)) }
+    // The part that a refusal names is the first one whose answers can't be merged with those before it.
+    ensures says { IfErr result (IsRefusal (jobs_of jobs.now) (parts_of parts.items)) }
     // If the answers of each part are what the jobs mean over its rows, the answers are what they mean over all rows,
     // whichever form all are read in.
     ensures whole { IfOk result (λ answers. (form : AbstractForm) (newest : ℕ) (bytes : List ℕ)

@@ -10,6 +10,7 @@ use Rattle.merge_run.proofs.MergedLemmas.{length_merged}
 use Rattle.merge_run.proofs.NamedAnswers.{length_names, merged_named}
 use Rattle.merge_run.proofs.ReportLemmas.{merge_of}
 use Rattle.merge_run.specs.Merged.{AreReportsOf, IsRefusalOf}
+use Rattle.merge_run.specs.Small.{ArePartsSmall}
 use Rattle.merge_run.proofs.RefusalLemmas.{refused_by}
 use Rattle.stream_tokens.specs.Forms.{IsName}
 use Rattle.merge_run.proofs.merging.report_of.Goals as goal
@@ -48,6 +49,8 @@ pub returns-in-Err-clause-refused : goal.returns-in-Err-clause-refused
 returns-in-Err-clause-refused c =
     let jobs = jobs_of c.args.jobs.now in
     let parts = parts_of c.in_ok-parts.parts.items in
-    let read : AreReportsOf (names_of jobs) c.args.parts.items parts = subst (λ (ns : List (List ℕ)). AreReportsOf ns c.args.parts.items parts) (c.deref.ensures.value ∙ c.in_ok-names.ensures) c.in_ok-parts.ensures.read in
+    let same = c.deref.ensures.value ∙ c.in_ok-names.ensures in
+    let read : AreReportsOf (names_of jobs) c.args.parts.items parts = subst (λ (ns : List (List ℕ)). AreReportsOf ns c.args.parts.items parts) same c.in_ok-parts.ensures.read in
+    let small : ArePartsSmall (names_of jobs) parts = subst (λ (ns : List (List ℕ)). ArePartsSmall ns parts) same c.in_ok-parts.ensures.small in
     subst (IsRefusalOf jobs c.args.parts.items) (sym c.in_ok-fault_of-in-Err.ensures)
-    (refused_by jobs c.args.parts.items parts read c.in_ok-parts.ensures.possible c.in-Err.fault c.in-Err.ensures.refused c.in-Err.ensures.no_part c.in-Err.ensures.rows)
+    (refused_by jobs c.args.parts.items parts read small c.in_ok-parts.ensures.possible c.in-Err.fault c.in-Err.ensures.says)

@@ -1,6 +1,7 @@
 use Rattle.std.proofs.Common.{◌≡◌, ◌≤◌, drop, length}
 use Rattle.std.specs.Vec.Iter.{into_iter_items, into_iter_len}
 use Rattle.job_language.specs.Jobs.{jobs_of}
+use Rattle.report_merge.specs.Apart.{first_apart}
 use Rattle.report_merge.specs.Merging.{answers_beside}
 use Rattle.report_merge.proofs.LoopLemmas.{onto}
 use Rattle.report_merge.proofs.merging.answers_beside.Given as goal
@@ -14,4 +15,6 @@ invariant-loop-answer l =
     (l.job ≤ length l.fn.jobs) ×
     (l.job ≤ length l.fn.right.answers.items) ×
     (onto l.both.items (answers_beside (jobs_of (drop l.job l.fn.jobs)) l.fn.before l.fn.right.rows (into_iter_items l.answer-iterator) (drop l.job l.fn.right.answers.items))
-    ≡ answers_beside (jobs_of l.fn.jobs) l.fn.before l.fn.right.rows l.fn.left.items l.fn.right.answers.items)
+    ≡ answers_beside (jobs_of l.fn.jobs) l.fn.before l.fn.right.rows l.fn.left.items l.fn.right.answers.items) ×
+    (first_apart l.job (jobs_of (drop l.job l.fn.jobs)) l.fn.before l.fn.right.rows (into_iter_items l.answer-iterator) (drop l.job l.fn.right.answers.items)
+    ≡ first_apart 0 (jobs_of l.fn.jobs) l.fn.before l.fn.right.rows l.fn.left.items l.fn.right.answers.items)
