@@ -11,3 +11,4 @@ mod RestLemmas
 mod TakenLemmas
 mod UniqueReports
 mod RefusalLemmas
+mod FaultLines

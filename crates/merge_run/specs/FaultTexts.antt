@@ -1,5 +1,5 @@
 -- Design: what a message says of reports that aren't merged, and the line on standard error.
-use Rattle.std.specs.Prelude.{ℕ, ◌++◌, List, [], ◌∷◌, codes, decimal, slice_index_or}
+use Rattle.std.specs.Prelude.{ℕ, ◌++◌, List, [], ◌∷◌, codes, decimal, map, slice_index_or}
 use Rattle.report_merge.specs.FaultTexts.{unmergeable_text}
 use Rattle.merge_run.specs.declared.fault.PartCause.{PartCause}
 use Rattle.merge_run.specs.declared.fault.PartCause.TheVariants.{NoReport, Missing, MoreJobs, Impossible, Differs}
@@ -32,18 +32,18 @@ of_file path text = path ++ (codes ": " ++ text)
 
 -- the path of the report with this index
 abbrev pub path_of : MergeAsked → ℕ → List ℕ
-path_of asked part = slice_index_or asked.reports part []
+path_of asked part = slice_index_or (map (λ path. path.now) asked.reports.now) part []
 
 -- why there is no report of the whole, with the path of the file that is to blame
 abbrev pub blaming_text : MergeAsked → ReportMergeFault → List ℕ
-blaming_text asked (Jobs line) = of_file asked.jobs (merge_text (Jobs line))
-blaming_text asked (Unmergeable job cause) = of_file asked.jobs (merge_text (Unmergeable job cause))
+blaming_text asked (Jobs line) = of_file asked.jobs.now (merge_text (Jobs line))
+blaming_text asked (Unmergeable job cause) = of_file asked.jobs.now (merge_text (Unmergeable job cause))
 blaming_text asked (Part number cause) = of_file (path_of asked number) (part_text cause)
 blaming_text asked fault = merge_text fault
 
 -- what went wrong in a run
 abbrev pub run_text : MergeAsked → MergeRunFault → List ℕ
-run_text asked run_fault.JobsRead = of_file asked.jobs (codes "read failed")
+run_text asked run_fault.JobsRead = of_file asked.jobs.now (codes "read failed")
 run_text asked (run_fault.ReportRead part) = of_file (path_of asked part) (codes "read failed")
 run_text asked (run_fault.Merge fault) = blaming_text asked fault
 run_text asked (run_fault.Write n) = codes "write failed after " ++ (decimal n ++ codes " bytes")
