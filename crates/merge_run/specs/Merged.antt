@@ -115,8 +115,8 @@ pub record HasImpossible (jobs : List AbstractJob) (reports : List PartReport) (
   pub first : first_impossible jobs part ≡ Some place
   pub named : slice_index_or (names_of jobs) place [] ≡ name
 
--- each report says answers that its jobs can have, but those of the report with this index can't be merged with those before
--- it: the job with this name is the first one that has another answer than in them
+-- each report says answers that its jobs can have; those of the report with this index can't be merged with the answers of
+-- the reports before it, and the job with this name is the first one for which they can't
 pub record HasDifferent (jobs : List AbstractJob) (reports : List PartReport) (number : ℕ) (name : List ℕ) : Type 0 where
   pub parts : List Part
   pub read : AreReportsOf (names_of jobs) reports parts

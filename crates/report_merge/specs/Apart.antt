@@ -1,4 +1,4 @@
--- Design: which part's answers can't be merged with those before it, and for which job.
+-- Design: what a refusal to merge parts says.
 use Rattle.std.specs.Prelude.{◌≡◌, ℕ, ◌+◌, ◌<◌, ◌^◌, ◌⊎◌, is_some, if◌then◌else◌, List, [], ◌∷◌, ◌++◌, length, Option, Some, None}
 use Rattle.job_language.specs.Jobs.{AbstractJob}
 use Rattle.job_meaning.specs.declared.answer.Answer.{Answer}
