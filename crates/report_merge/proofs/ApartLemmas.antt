@@ -1,6 +1,6 @@
 -- The part that a refusal names, and the job.
-use Rattle.std.proofs.Common.{◌≡◌, ℕ, suc, ◌+◌, ◌-◌, ◌<◌, ◌≤◌, ◌^◌, min, Bool, true, false, List, [], ◌∷◌, ◌++◌, length, append_assoc, append-nil, length-append, Option, Some, None, refl, sym, ap, subst, inl, inr, ◌∙◌, arith, drop}
-use Rattle.std.specs.Prelude.{if◌then◌else◌, nat_lt}
+use Rattle.std.proofs.Common.{◌≡◌, ℕ, suc, ◌+◌, ◌-◌, ◌<◌, ◌≤◌, ◌^◌, ◌⊎◌, min, Bool, true, false, List, [], ◌∷◌, ◌++◌, length, append_assoc, append-nil, length-append, Option, Some, None, refl, sym, ap, subst, inl, inr, ◌∙◌, arith, drop}
+use Rattle.std.specs.Prelude.{if◌then◌else◌, is_some, nat_lt}
 use Rattle.std.proofs.lemmas.List.{drop_all, length-drop}
 use Rattle.job_language.specs.declared.job.Job.{Job}
 use Rattle.job_language.specs.Jobs.{AbstractJob, jobs_of}
@@ -8,9 +8,9 @@ use Rattle.job_meaning.specs.declared.answer.Answer.{Answer}
 use Rattle.report_merge.specs.declared.fault.MergeFault.{MergeFault}
 use Rattle.report_merge.specs.declared.fault.MergeFault.TheVariants as fault
 use Rattle.report_merge.specs.declared.part.PartAnswers.{PartAnswers}
-use Rattle.report_merge.specs.Apart.{IsRefusal, IsRefusedAt, first_apart, first_unpaired}
+use Rattle.report_merge.specs.Apart.{IsApart, IsRefusal, IsRefusedAt, first_apart, first_unpaired}
 use Rattle.report_merge.proofs.LoopLemmas.{rows_on}
-use Rattle.report_merge.specs.Merging.{Part, all_as_one, answer_beside, answers_beside, as_one, both, first_part, part_of, part_with, parts_of, rows_in, together}
+use Rattle.report_merge.specs.Merging.{Part, all_as_one, answer_beside, answers_beside, as_one, both, finished, first_part, merged, part_of, part_with, parts_of, rows_in, together}
 
 nothing : {A B : Type 0} {x : A} → None ≡ Some x → B
 nothing e = absurd cc
@@ -209,3 +209,78 @@ module _ (jobs : List AbstractJob) where
       let one : together jobs (parts_of done) ≡ Some (part_of p) = subst (λ (o : Option PartAnswers). AreOne jobs o (parts_of done)) here h.one in
       let same : done ≡ all = sym (append-nil done) ∙ (ap (λ (qs : List PartAnswers). done ++ qs) (sym none) ∙ h.together_are) in
       refused_last (part_of p) (parts_of all) f (subst (λ (ps : List PartAnswers). together jobs (parts_of ps) ≡ Some (part_of p)) same one) at
+
+-- ---- what is apart isn't merged, and nothing else is named
+
+beside_none : (n : ℕ) (jobs : List AbstractJob) (before rows : ℕ) (ls bs : List Answer) (j : ℕ) → first_apart n jobs before rows ls bs ≡ Some j → answers_beside jobs before rows ls bs ≡ None
+beside_none n [] before rows [] [] j e = nothing e
+beside_none n [] before rows [] (b ∷ bs) j e = refl
+beside_none n [] before rows (a ∷ ls) bs j e = refl
+beside_none n (job ∷ jobs) before rows [] bs j e = refl
+beside_none n (job ∷ jobs) before rows (a ∷ ls) [] j e = refl
+beside_none n (job ∷ jobs) before rows (a ∷ ls) (b ∷ bs) j e = by_first (answer_beside job before rows a b) (beside_none (n + 1) jobs before rows ls bs j) e
+  where
+    by_first : (o : Option Answer) → (first_apart (n + 1) jobs before rows ls bs ≡ Some j → answers_beside jobs before rows ls bs ≡ None)
+        → (if is_some o then first_apart (n + 1) jobs before rows ls bs else Some n) ≡ Some j → both o (answers_beside jobs before rows ls bs) ≡ None
+    by_first None more h = refl
+    by_first (Some c) more h = ap (both (Some c)) (more h)
+
+all_then : (jobs : List AbstractJob) (o : Option Part) (qs rs : List Part) → all_as_one jobs o (qs ++ rs) ≡ all_as_one jobs (all_as_one jobs o qs) rs
+all_then jobs None qs [] = refl
+all_then jobs None qs (r ∷ rs) = refl
+all_then jobs (Some p) [] rs = refl
+all_then jobs (Some p) (q ∷ qs) rs = all_then jobs (as_one jobs p q) qs rs
+
+no_one : (t : Bool) (n : ℕ) (o : Option (List Answer)) → o ≡ None → (if t then None else part_with n o) ≡ None
+no_one true n o e = refl
+no_one false n o e = ap (part_with n) e
+
+not_together : (jobs : List AbstractJob) (ps : List Part) (p q : Part) (qs : List Part) → together jobs ps ≡ Some p → as_one jobs p q ≡ None → together jobs (ps ++ q ∷ qs) ≡ None
+not_together jobs [] p q qs e none = nothing e
+not_together jobs (r ∷ ps) p q qs e none =
+    all_then jobs (first_part r) ps (q ∷ qs) ∙ (ap (λ o. all_as_one jobs o (q ∷ qs)) e ∙ ap (λ o. all_as_one jobs o qs) none)
+
+-- two elements of a list: one and the same, or one of them before the other
+two_places : (xs ys : List Part) (p q : Part) (ps qs : List Part) → xs ++ p ∷ ps ≡ ys ++ q ∷ qs
+    → ((xs ≡ ys) × (p ≡ q)) ⊎ (((more : List Part) × (ys ≡ xs ++ p ∷ more)) ⊎ ((more : List Part) × (xs ≡ ys ++ q ∷ more)))
+two_places [] [] p q ps qs e = inl (refl, cc)
+two_places [] (y ∷ ys) p q ps qs e = let same : y ≡ p = cc in inr (inl (ys, ap (λ (r : Part). r ∷ ys) same))
+two_places (x ∷ xs) [] p q ps qs e = let same : x ≡ q = cc in inr (inr (xs, ap (λ (r : Part). r ∷ xs) same))
+two_places (x ∷ xs) (y ∷ ys) p q ps qs e =
+    let same : x ≡ y = cc in
+    let rest : xs ++ p ∷ ps ≡ ys ++ q ∷ qs = cc in
+    further same (two_places xs ys p q ps qs rest)
+  where
+    further : x ≡ y → ((xs ≡ ys) × (p ≡ q)) ⊎ (((more : List Part) × (ys ≡ xs ++ p ∷ more)) ⊎ ((more : List Part) × (xs ≡ ys ++ q ∷ more)))
+        → ((x ∷ xs ≡ y ∷ ys) × (p ≡ q)) ⊎ (((more : List Part) × (y ∷ ys ≡ x ∷ xs ++ p ∷ more)) ⊎ ((more : List Part) × (x ∷ xs ≡ y ∷ ys ++ q ∷ more)))
+    further same (inl at) = inl ((λ i. same i ∷ at.0 i), at.1)
+    further same (inr (inl at)) = inr (inl (at.0, λ i. sym same i ∷ at.1 i))
+    further same (inr (inr at)) = inr (inr (at.0, λ i. same i ∷ at.1 i))
+
+module _ (jobs : List AbstractJob) (parts : List Part) where
+  not_one : (number job : ℕ) (h : IsApart jobs parts number job) → as_one jobs h.whole h.part ≡ None
+  not_one number job h =
+      no_one (nat_lt (2 ^ 62) (h.whole.rows + h.part.rows)) (h.whole.rows + h.part.rows) (answers_beside jobs h.whole.rows h.part.rows h.whole.answers h.part.answers)
+      (beside_none 0 jobs h.whole.rows h.part.rows h.whole.answers h.part.answers job h.first)
+
+  pub none_merged : (number job : ℕ) → IsApart jobs parts number job → merged jobs parts ≡ None
+  none_merged number job h =
+      ap (merged jobs) h.all ∙ ap (finished jobs) (not_together jobs h.before h.whole h.part h.later h.merged (not_one number job h))
+
+  -- helper: a part before one that is apart isn't apart
+  not_before : {A : Type 0} (number job other another : ℕ) (h : IsApart jobs parts number job) (k : IsApart jobs parts other another) (more : List Part) → k.before ≡ h.before ++ h.part ∷ more → A
+  not_before number job other another h k more e =
+      nothing (sym (not_together jobs h.before h.whole h.part more h.merged (not_one number job h)) ∙ (ap (together jobs) (sym e) ∙ k.merged))
+
+  pub one_apart : (number job other another : ℕ) → IsApart jobs parts number job → IsApart jobs parts other another → (number ≡ other) × (job ≡ another)
+  one_apart number job other another h k = at (two_places h.before k.before h.part k.part h.later k.later (sym h.all ∙ k.all))
+    where
+      at : ((h.before ≡ k.before) × (h.part ≡ k.part)) ⊎ (((more : List Part) × (k.before ≡ h.before ++ h.part ∷ more)) ⊎ ((more : List Part) × (h.before ≡ k.before ++ k.part ∷ more)))
+          → (number ≡ other) × (job ≡ another)
+      at (inl same) =
+          let whole : h.whole ≡ k.whole = the_same (sym h.merged ∙ (ap (together jobs) same.0 ∙ k.merged)) in (
+            h.number_is ∙ (ap length same.0 ∙ sym k.number_is),
+            the_same (sym h.first ∙ ((λ i. first_apart 0 jobs (whole i).rows (same.1 i).rows (whole i).answers (same.1 i).answers) ∙ k.first)),
+          )
+      at (inr (inl found)) = not_before number job other another h k found.0 found.1
+      at (inr (inr found)) = not_before other another number job k h found.0 found.1

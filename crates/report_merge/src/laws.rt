@@ -1,8 +1,11 @@
-//! A law of refused tables. The function does nothing; its contract is the law.
+//! Laws of refused tables and parts. The functions do nothing; their contracts are the laws.
 
-ghost use Rattle.std.specs.Prelude.{◌≡◌, ◌∷◌, ◌++◌, List};
+ghost use Rattle.std.specs.Prelude.{◌≡◌, ◌∷◌, ◌++◌, ℕ, List, None};
 ghost use Rattle.columns.specs.TableForms.{AbstractForm};
+ghost use Rattle.job_language.specs.Jobs.{AbstractJob};
+ghost use Rattle.report_merge.specs.Apart.{IsApart};
 ghost use Rattle.report_merge.specs.Cuts.{Row, all_rows};
+ghost use Rattle.report_merge.specs.Merging.{Part, merged};
 ghost use Rattle.report_merge.specs.Refusals.{first_refusal, refusal_of};
 
 /// A table that is cut into parts, each with the header, is refused for the refusal of the first part that is refused,
@@ -11,4 +14,13 @@ ghost use Rattle.report_merge.specs.Refusals.{first_refusal, refusal_of};
 pub fn the_first_refused_part_refuses_the_table()
     ensures { (form : AbstractForm) (header : Row) (rows : List Row) (tables : List (List Row))
         → refusal_of form (header ∷ all_rows (rows ∷ tables)) ≡ first_refusal form 0 header (rows ∷ tables) }
+{}
+
+/// A refusal of answers names the only part and the only job that it can name; then the parts have no merged answers.
+pub fn a_refusal_names_one_part_and_one_job()
+    ensures none { (jobs : List AbstractJob) (parts : List Part) (number job : ℕ)
+        → IsApart jobs parts number job → merged jobs parts ≡ None }
+    ensures one { (jobs : List AbstractJob) (parts : List Part) (number job other another : ℕ)
+        → IsApart jobs parts number job → IsApart jobs parts other another
+        → (number ≡ other) × (job ≡ another) }
 {}

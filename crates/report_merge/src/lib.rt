@@ -20,7 +20,7 @@ mod stage_faults;
 mod unmergeable;
 
 pub use fault::MergeFault;
-pub use laws::the_first_refused_part_refuses_the_table;
+pub use laws::{a_refusal_names_one_part_and_one_job, the_first_refused_part_refuses_the_table};
 pub use merging::merge;
 pub use part::PartAnswers;
 pub use possible::first_impossible;
