@@ -1,4 +1,5 @@
-//! Room for the values of a piece that goes through maps alone, taken at once.
+//! What the part of a piece can know of the items to come: room for the values of a piece that goes through maps alone
+//! is taken at once.
 
 ghost use Rattle.std.specs.Prelude.{◌≡◌};
 ghost use Rattle.trace.specs.Trace.{nothing};
@@ -11,6 +12,7 @@ use job_routes::{Segment, are_maps};
 use lambda_values::Env;
 use prefix_walks::Window;
 use std::alloc::Global;
+use trace::Stage;
 
 /// For how many values room is taken at most: 512 kB. A part with more of them grows by doubling from there on.
 const MOST: u64 = 65_536;
@@ -18,7 +20,7 @@ const MOST: u64 = 65_536;
 /// The part of no item, for these positions of a source.
 ///
 /// An array gets room for the values of all of them, if each item has one, so that it isn't copied as it grows. If that
-/// memory is refused, it grows as any other part does.
+/// memory is refused, it grows as any other part does. A sort is given how many items the whole walk has at most.
 pub(crate) fn with_room<'p>(
     alloc: Global,
     segment: &'p Segment,
@@ -30,6 +32,7 @@ pub(crate) fn with_room<'p>(
     ensures keeps { keeps_items result ≡ end_keeps_items (end_in segment.now.end) }
 {
     let part = begun(alloc, segment, window.from, walked.env);
+    let part = expecting(part, &segment.stages.list, walked.source.size());
     if !are_maps(&segment.stages.list) {
         return part;
     }
@@ -60,6 +63,22 @@ fn reserved(part: Part<'_>, values: usize) -> Part<'_>
         Part::Array(mut array) => {
             array.reserve(values);
             Part::Array(array)
+        }
+        other => other,
+    }
+}
+
+/// The part. A sort of a walk whose items come out of one item of the source each knows how many there are at most.
+fn expecting<'p>(part: Part<'p>, stages: &[Stage], size: u64) -> Part<'p>
+    ensures { result ≡ part.entry }
+{
+    match part {
+        Part::Sorted(mut sorted)
+            if !stages
+                .iter()
+                .any(|stage| matches!(stage, Stage::FlatMap(_))) => {
+            sorted.expect(size);
+            Part::Sorted(sorted)
         }
         other => other,
     }

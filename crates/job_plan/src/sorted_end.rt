@@ -45,6 +45,6 @@ pub(crate) fn sorted_walk<'a>(part: SortedPart) -> Result<GivenWalk<'a>, NoMemor
     ensures { IfOk result (λ given. (m : Option ℕ) (t : Trace) → part ≡ least_of m t
         → given ≡ done_after m (sorted_walk t)) }
 {
-    let (items, end) = part.finish()?;
-    Ok(GivenWalk::items(items, end))
+    let (runs, end) = part.finish()?;
+    Ok(GivenWalk::sorted(runs, end))
 }

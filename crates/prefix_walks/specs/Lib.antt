@@ -5,3 +5,4 @@ pub mod Kept
 pub mod Pieces
 pub mod Placing
 pub mod Scans
+pub mod Stretches

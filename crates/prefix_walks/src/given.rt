@@ -2,9 +2,11 @@
 
 ghost use Rattle.std.specs.Prelude.{◌≡◌, [], length};
 ghost use Rattle.trace.specs.Trace.{trace};
+ghost use Rattle.sort_ops.specs.Ranges.{ordered};
 
 use crate::kept::Kept;
 use crate::scanned::ScannedWalk;
+use sort_ops::SortedRuns;
 use std::marker::Model;
 use trace::{End, Item};
 
@@ -53,6 +55,15 @@ impl<'a> GivenWalk<'a> {
         }
     }
 
+    /// Keeps runs, for the walk that has their items in order, and its end.
+    pub fn sorted(runs: SortedRuns, end: End) -> GivenWalk<'a>
+        ensures { result ≡ trace (ordered runs.count runs.runs.items) end }
+    {
+        GivenWalk {
+            kept: Kept::Sorted(runs, end),
+        }
+    }
+
     /// How the walk ended.
     pub fn end(&self) -> End
         ensures { result ≡ self.now.ending }
@@ -60,7 +71,7 @@ impl<'a> GivenWalk<'a> {
         match &self.kept {
             Kept::Ended(end) => *end,
             Kept::Scanned(walk) => walk.end(),
-            Kept::Items(_, end) => *end,
+            Kept::Items(_, end) | Kept::Sorted(_, end) => *end,
         }
     }
 
@@ -72,6 +83,7 @@ impl<'a> GivenWalk<'a> {
             Kept::Ended(_) => 0,
             Kept::Scanned(walk) => walk.size(),
             Kept::Items(items, _) => items.len() as u64,
+            Kept::Sorted(runs, _) => runs.count,
         }
     }
 }

@@ -1,6 +1,7 @@
 //! What is kept of a walk.
 
 use crate::scanned::ScannedWalk;
+use sort_ops::SortedRuns;
 use trace::{End, Item};
 
 /// What is kept of a walk.
@@ -12,4 +13,6 @@ pub enum Kept<'a> {
     Scanned(ScannedWalk<'a>),
     /// Its items, and how it ended.
     Items(Vec<Item>, End),
+    /// Runs whose items it has in order, and how it ended.
+    Sorted(SortedRuns, End),
 }

@@ -18,6 +18,7 @@ mod folding;
 mod given;
 mod kept;
 mod kept_items;
+mod kept_runs;
 mod laws;
 mod piece_buffer;
 mod piece_folds;

@@ -17,6 +17,7 @@ use crate::folded_walk::{Scan, feed_piece};
 use crate::given::GivenWalk;
 use crate::kept::Kept;
 use crate::kept_items::feed_items;
+use crate::kept_runs::feed_runs;
 use crate::piece_buffer::PieceBuffer;
 use crate::scanned::ScannedWalk;
 use crate::window::Window;
@@ -41,6 +42,7 @@ pub fn feed_given<S: BatchSink>(
         Kept::Ended(_) => Ok(Fed::More),
         Kept::Scanned(walk) => feed_scanned(line, walk, window, registers, sink),
         Kept::Items(items, _) => feed_items(line, items, window, registers, sink),
+        Kept::Sorted(runs, _) => feed_runs(line, runs, window, registers, sink),
     }
 }
 

@@ -4,3 +4,4 @@ pub mod NewValues
 pub mod Orders
 pub mod Parts
 pub mod Places
+pub mod Ranges

@@ -18,6 +18,8 @@ mod new_values;
 mod placing;
 mod runs;
 mod sorted_part;
+mod sorted_run;
+mod sorted_runs;
 
 pub use distinct_part::DistinctPart;
 pub use laws::{
@@ -26,3 +28,5 @@ pub use laws::{
 };
 pub use merging::{merge_items, order};
 pub use sorted_part::SortedPart;
+pub use sorted_run::{SortedRun, ValueRange};
+pub use sorted_runs::SortedRuns;
