@@ -12,5 +12,7 @@ pub mod NewLemmas
 pub mod OrderLemmas
 pub mod PartLemmas
 pub mod PlaceLemmas
+pub mod RangeLemmas
+pub mod RunLemmas
 pub mod SortLemmas
 pub mod UniqueLemmas
