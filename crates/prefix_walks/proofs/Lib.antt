@@ -8,4 +8,5 @@ pub mod KeptLemmas
 pub mod PieceLemmas
 pub mod PlacingLemmas
 pub mod ScanLemmas
+pub mod StretchLemmas
 pub mod WindowPositions
