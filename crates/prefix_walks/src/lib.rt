@@ -1,13 +1,15 @@
 //! What a prefix keeps of a walk, and how a walk that was kept is walked again.
 //!
-//! Stands on `prefix_scan`, for folds and scans of pieces, on `reduce_ops`, for operators, and on `batch_eval` and
-//! `trace`, for walks. Used by `job_routes`, which says where a prefix ends a leg, and by `job_plan`, which walks legs.
-//! Begin with `specs/Scans.antt` and `prefix_part.rt`. A piece of a walk gives its items to a `PrefixPart`, which
-//! stores them in pieces of 1,024 with their folds, or borrows the values and the cheap stages that they come out of.
-//! Two parts side by side merge. `finish` gives a `GivenWalk`, whose items are scanned as `feed_given` takes them
-//! through the stages of the next segment. The folds of batches (`folded`, `folded_flagged`) and the question whether
-//! stages can't have a fault (`are_faultless`) are of use without a prefix. Not promised: that a value is read once.
-//! What cheap stages leave of a borrowed value is worked out for its fold and again where it is read.
+//! Stands on `prefix_scan`, for folds and scans of pieces, on `reduce_ops`, for operators, on `sort_ops`, for runs, and
+//! on `batch_eval` and `trace`, for walks. Used by `job_routes`, which says where a prefix ends a leg, and by
+//! `job_plan`, which walks legs. Begin with `specs/Scans.antt` and `prefix_part.rt`. A piece of a walk gives its items
+//! to a `PrefixPart`, which stores them in pieces of 1,024 with their folds, or borrows the values and the cheap stages
+//! that they come out of. Two parts side by side merge. `finish` gives a `GivenWalk`, whose items are scanned as
+//! `feed_given` takes them through the stages of the next segment. A `GivenWalk` may also keep items, or the runs of a
+//! sort, of which `kept_runs.rt` puts those in order that are asked for. The folds of batches (`folded`,
+//! `folded_flagged`) and the question whether stages can't have a fault (`are_faultless`) are of use without a prefix.
+//! Not promised: that a value is read once. What cheap stages leave of a borrowed value is worked out for its fold and
+//! again where it is read.
 #![tactic(auto)]
 
 mod cheap_stages;

@@ -2,10 +2,11 @@
 //!
 //! Stands on `trace`, for items and ends. Used by whatever runs one of these stages. What it promises to them: a part
 //! describes a piece of a walk, and two parts side by side merge to the part of both (`SortedPart::append` and
-//! `DistinctPart::append`, clause `ok`); `finish` gives what the stage makes of the whole. `laws.rt` says what the
-//! order of items is and what firsts are, and that every tree of pieces gives them. Begin with `specs/Orders.antt`
-//! and `specs/Firsts.antt`, then `merging.rt`, `runs.rt`, `sorted_part.rt` and `distinct_part.rt`. Not promised: how
-//! much of a part is in order, or was looked up in its set, before `finish`.
+//! `DistinctPart::append`, clause `ok`); `finish` gives what the stage makes of the whole, `sorted` as runs that share
+//! it (`SortedRuns`). `laws.rt` says what the order of items is and what firsts are, and that every tree of pieces
+//! gives them. Begin with `specs/Orders.antt` and `specs/Firsts.antt`, then `merging.rt`, `runs.rt`, `sorted_part.rt`,
+//! `sorted_runs.rt` and `distinct_part.rt`. Not promised: how much of a part is in order, or was looked up in its set,
+//! before `finish`, and how many runs there are.
 //! Java: `sorted` and `distinct` of `LongStream` (Java SE 17, `java.util.stream`).
 #![tactic(auto)]
 
