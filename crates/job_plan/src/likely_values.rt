@@ -100,6 +100,13 @@ fn value_in(sources: &[PlainSource], position: u64) -> Option<i64> {
     None
 }
 
+/// Whether each item becomes one at most in these stages.
+pub(crate) fn are_single(stages: &[Stage]) -> bool {
+    !stages
+        .iter()
+        .any(|stage| matches!(stage, Stage::FlatMap(_)))
+}
+
 /// How many values an item at these positions of sources becomes in these stages, by the average of some: of `count`
 /// items from the first one on.
 pub(crate) fn values_of_some(
@@ -109,10 +116,7 @@ pub(crate) fn values_of_some(
     count: u64,
     env: &Env,
 ) -> Option<u64> {
-    if !stages
-        .iter()
-        .any(|stage| matches!(stage, Stage::FlatMap(_)))
-    {
+    if are_single(stages) {
         return Some(1);
     }
     let mut values = 0u64;

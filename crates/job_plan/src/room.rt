@@ -6,6 +6,7 @@ ghost use Rattle.trace.specs.Trace.{nothing};
 ghost use Rattle.job_plan.specs.Parts.{EndsFor, end_keeps_items, keeps_items};
 ghost use Rattle.job_routes.specs.Legs.{end_in, number_after};
 
+use crate::likely_values::are_single;
 use crate::part::Part;
 use crate::source::Walked;
 use job_routes::{Segment, are_maps};
@@ -68,15 +69,12 @@ fn reserved(part: Part<'_>, values: usize) -> Part<'_>
     }
 }
 
-/// The part. A sort of a walk whose items come out of one item of the source each knows how many there are at most.
+/// The part. A sort is given the size of the source, if no item of it becomes several.
 fn expecting<'p>(part: Part<'p>, stages: &[Stage], size: u64) -> Part<'p>
     ensures { result ≡ part.entry }
 {
     match part {
-        Part::Sorted(mut sorted)
-            if !stages
-                .iter()
-                .any(|stage| matches!(stage, Stage::FlatMap(_))) => {
+        Part::Sorted(mut sorted) if are_single(stages) => {
             sorted.expect(size);
             Part::Sorted(sorted)
         }
