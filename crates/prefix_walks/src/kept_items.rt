@@ -34,7 +34,8 @@ pub(crate) fn feed_items<S: BatchSink>(
     feed_parts(line, part, registers, sink)
 }
 
-/// Takes items, up to 1,024 at a time.
+/// Takes items, up to 1,024 at a time. Its buffer isn't to lie in each frame of a caller that calls itself.
+#[inline(never)]
 fn feed_parts<S: BatchSink>(
     line: Pipeline<'_>,
     items: &[Item],
