@@ -1,6 +1,6 @@
 """The lists of files in docs/adding.md: which files an operation that is there has touched. `scripts/pages --write` writes them.
 
-An operation's files are those that say its name, in code, in definitions or in a proof.
+An operation's files are those that say its name in code, in definitions or in a proof, comments apart.
 """
 import itertools
 import os
@@ -14,7 +14,7 @@ from repository import crates_of, read
 OPERATIONS = {
     'flatMap': r'\b(?:FlatMap|flatMap)\b|\bStages\b.*\bflat_map\b',
     'floorMod': r'\b(?:floorMod|FloorMod|FloorRemainder\w*|\w*floor_remainder)\b',
-    'findFirst': r'\b(?:findFirst|FindFirst|find_first)(?:_\w+)?\b',
+    'findFirst': r'\b(?:findFirst|FindFirst|find_first)(?:_\w+)?\b|\bFindTerminal::First\b|\bfind_of terminal\.First\b',
 }
 # The files of an operation that another one of its kind doesn't need, and what they are for.
 APART = {
@@ -22,11 +22,15 @@ APART = {
 }
 # Each column of a list, with the folders whose files it names.
 FOLDERS = {'src': ('src',), 'specs': ('specs',), 'proofs': ('proofs',), 'wrong bodies': ('wrong-bodies',)}
+# What begins a comment in the files of a crate.
+COMMENTS = {'.rt': re.compile('//'), '.antt': re.compile('--')}
 ELSEWHERE = ('editors', 'python/streamrun_language', 'scripts', 'tests')
 
 
 def says(path, pattern):
-    return is_text(path) and re.search(pattern, read(path)) is not None
+    """Whether a file says this. A comment in a crate may name an operation that the file knows nothing of."""
+    comment = COMMENTS.get(os.path.splitext(path)[1])
+    return is_text(path) and any(re.search(pattern, comment.split(line)[0] if comment else line) for line in read(path).splitlines())
 
 
 def files_that_say(base, pattern):

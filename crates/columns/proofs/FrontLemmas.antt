@@ -175,6 +175,19 @@ drop-front zero xs ys h = refl
 drop-front (suc n) [] ys h = absurd (omega (arith, h))
 drop-front (suc n) (x ∷ xs) ys h = drop-front n xs ys (omega (arith, h))
 
+-- the lines that are left of a round, before the bytes that were read meanwhile
+pub drop-round : (from end put_to a b : ℕ) (bytes spare : List ℕ) → a ≡ from + put_to → b ≡ from + end → b ≤ length bytes
+    → drop a (take b bytes ++ spare) ≡ drop put_to (take end (drop from bytes) ++ spare)
+drop-round zero end put_to a b bytes spare is to within =
+    let start : a ≡ put_to = omega (arith, is) in
+    let stop : b ≡ end = omega (arith, to) in
+    rw (start, stop) refl
+drop-round (suc from) end put_to zero b bytes spare is to within = absurd (omega (arith, is))
+drop-round (suc from) end put_to (suc a) zero bytes spare is to within = absurd (omega (arith, to))
+drop-round (suc from) end put_to (suc a) (suc b) [] spare is to within = absurd (omega (arith, within))
+drop-round (suc from) end put_to (suc a) (suc b) (x ∷ bytes) spare is to within =
+    drop-round from end put_to a b bytes spare (omega (arith, is)) (omega (arith, to)) (omega (arith, within))
+
 AreReadBy-given : (l : Layout) (xs ys gone : List ℕ) (a b : List NamedColumn) → AreReadBy l xs ys a b → AreReadBy l (xs ++ gone) (ys ++ gone) a b
 AreReadBy-given l xs ys gone a b read = record {
   rows = read.rows;
@@ -214,10 +227,10 @@ IsPutBy-records l a b bytes gone text before now answer some consumed is put =
     (gone, consumed, λ form all f. IsFront-records form l (all ++ gone) (bytes ++ gone) before now answer some (IsFront-given form l all bytes gone before f) (rw is at put))
 
 -- the rows after the header are the file's
-pub file_answer : (l : Layout) (a b : Option (List ℕ)) (bytes : List ℕ) (end : ℕ) (before now : List NamedColumn) (answer : Result ⊤ ColumnFault) → 3 ≤ length bytes
-    → IsPutBy l a b (drop end (strip_bom bytes)) before answer now
-    → (gone : List ℕ) × Consumes a b gone × ((form : AbstractForm) → IsFront form l (strip_bom bytes) (drop end (strip_bom bytes)) before → IsAnswerOf form (strip_bom (bytes ++ gone)) answer now)
-file_answer l a b bytes end before now answer long (gone, consumed, put) =
+pub file_answer : (l : Layout) (a b : Option (List ℕ)) (bytes left : List ℕ) (before now : List NamedColumn) (answer : Result ⊤ ColumnFault) → 3 ≤ length bytes
+    → IsPutBy l a b left before answer now
+    → (gone : List ℕ) × Consumes a b gone × ((form : AbstractForm) → IsFront form l (strip_bom bytes) left before → IsAnswerOf form (strip_bom (bytes ++ gone)) answer now)
+file_answer l a b bytes left before now answer long (gone, consumed, put) =
     (gone, consumed, λ form f. rw (strip_bom-more bytes gone long) (put form (strip_bom bytes) f))
 
 pub file_columns : (form : AbstractForm) (bytes : List ℕ) (now : List NamedColumn) → IsAnswerOf form (strip_bom bytes) (Ok tt) now → cells_by form bytes ≡ Ok now

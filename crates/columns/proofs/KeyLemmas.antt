@@ -1,5 +1,5 @@
 -- Keys of columns, and the looks that they ask for.
-use Rattle.std.proofs.Common.{◌≡◌, ◌<◌, ◌+◌, ◌++◌, ◌∷◌, ◌∙◌, ◌==◌, ◌&&◌, ◌⊎◌, [], ℕ, zero, suc, List, Bool, true, false, cond, refl, ap, subst, inl, inr, arith, length, map, take, get_or, nat_eq}
+use Rattle.std.proofs.Common.{◌≡◌, ◌<◌, ◌+◌, ◌++◌, ◌∷◌, ◌∙◌, ◌==◌, ◌&&◌, ◌||◌, ◌⊎◌, [], ℕ, zero, suc, List, Bool, true, false, cond, refl, ap, subst, inl, inr, arith, length, take, get_or, nat_eq}
 use Rattle.std.proofs.lemmas.Bool.Decides.{nat_tests}
 use Rattle.std.proofs.lemmas.List.{take_more}
 use Rattle.std.proofs.lemmas.List.Elements.{filter-append}
@@ -7,7 +7,8 @@ use Rattle.std.proofs.lemmas.Bool.{cases_Bool}
 use Rattle.std.specs.List.{filter, list_any}
 use Rattle.std.specs.Str.{bytes_eq}
 use Rattle.job_names.specs.ColumnKeys.{key_of}
-use Rattle.columns.specs.TableForms.{all_places, looks_or, named_looks}
+use Rattle.columns.specs.Layouts.{begun_by}
+use Rattle.columns.specs.TableForms.{looks_or}
 
 -- a key with places, byte by byte
 pub key_same : (name key : List ℕ) (p i : ℕ) → (p == 0) ≡ false → i ≡ length name → length key ≡ length name + 2 → (get_or key i 0 == 34) ≡ true → (get_or key (suc i) 0 == p) ≡ true
@@ -92,18 +93,10 @@ other_key (n ∷ name) (k ∷ key) (suc p) h = elim (cases_Bool (nat_eq n k)) [
   | inr other ↦ rw other refl
 ]
 
-other_keys : {X : Type 0} (f : X → List ℕ) (name : List ℕ) (p : ℕ) (keys : List X) → list_any (λ key. bytes_eq name (take (length name) (f key))) keys ≡ false
-    → list_any (bytes_eq (key_of name p)) (map f keys) ≡ false
-other_keys f name p [] h = refl
-other_keys f name p (k ∷ keys) h = elim (cases_Bool (bytes_eq name (take (length name) (f k)))) [
-  | inl begun ↦ cc (rw begun at h)
-  | inr other ↦ rw (other_key name (f k) p other) (other_keys f name p keys (rw other at h))
+-- the keys that begin with a name are enough to find out whether one names it
+pub begun_enough : (name : List ℕ) (p : ℕ) (keys : List (List ℕ)) → list_any (bytes_eq (key_of name p)) (begun_by name keys) ≡ list_any (bytes_eq (key_of name p)) keys
+begun_enough name p [] = refl
+begun_enough name p (k ∷ keys) = elim (cases_Bool (bytes_eq name (take (length name) k))) [
+  | inl begun ↦ rw begun (ap (λ b. bytes_eq (key_of name p) k || b) (begun_enough name p keys))
+  | inr other ↦ rw (other, other_key name k p other) (begun_enough name p keys)
 ]
-
-filter_none : (test : ℕ → Bool) (xs : List ℕ) → ((x : ℕ) → test x ≡ false) → filter test xs ≡ []
-filter_none test [] h = refl
-filter_none test (x ∷ xs) h = rw (h x) (filter_none test xs h)
-
-pub none_named : {X : Type 0} (f : X → List ℕ) (name : List ℕ) (keys : List X) → list_any (λ key. bytes_eq name (take (length name) (f key))) keys ≡ false
-    → named_looks (map f keys) name ≡ []
-none_named f name keys h = filter_none (λ p. list_any (bytes_eq (key_of name p)) (map f keys)) all_places (λ p. other_keys f name p keys h)

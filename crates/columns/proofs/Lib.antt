@@ -2,6 +2,7 @@ pub mod CellLemmas
 pub mod CutLemmas
 pub mod DecimalLemmas
 pub mod DigitLemmas
+pub mod EvenLemmas
 pub mod FileLemmas
 pub mod FirstRecord
 pub mod FrontLemmas

@@ -1,9 +1,10 @@
 -- Condition: a text whose first rows stand in the columns already.
-use Rattle.std.specs.Prelude.{◌≡◌, ◌≢◌, ◌++◌, ◌+◌, ◌∷◌, [], ⊤, ℕ, Option, List, None, Some, Result, Ok, Err, MatchResult, length, map}
+use Rattle.std.specs.Prelude.{◌≡◌, ◌≢◌, ◌++◌, ◌+◌, ◌∷◌, [], ⊤, ℕ, Option, List, None, Some, Result, Ok, Err, MatchResult, length, map, drop}
 use Rattle.std.specs.Io.KnownBytes.{Consumes, IsAtEnd}
 use Rattle.columns.specs.declared.fault.ColumnFault.{ColumnFault}
 use Rattle.columns.specs.declared.fault.ColumnFault.TheVariants.{Read, NoMemory}
 use Rattle.columns.specs.declared.layout.Layout.{Layout}
+use Rattle.columns.specs.declared.rounds.Rounds.{Rounds}
 use Rattle.columns.specs.Layouts.{IsLayout, looks_in}
 use Rattle.columns.specs.Pieces.{cells_at}
 use Rattle.columns.specs.Refusals.{header_fault}
@@ -20,6 +21,10 @@ kept_rows l rows = map (kept (looks_in l)) (filled_rows l.blank rows)
 -- the first fault of rows from row r on
 abbrev pub fault_by : Layout → ℕ → List (List (List ℕ)) → Option ColumnFault
 fault_by l r rows = rows_fault_in (looks_in l) r (filled_rows l.blank rows)
+
+-- the bytes of a round whose rows aren't put
+abbrev pub left_in : Rounds → List ℕ
+left_in r = drop r.from r.bytes.items
 
 -- a text has a header and rows without a fault, which stand in the columns; the records after them are read from `left`
 -- on, whatever comes after the text

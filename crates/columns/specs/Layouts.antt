@@ -1,5 +1,7 @@
 -- Condition: how a table is read, in memory, and what its rows are read by.
-use Rattle.std.specs.Prelude.{◌≡◌, ◌≢◌, ◌<◌, [], ◌∷◌, ℕ, List, Result, Ok, Err, MatchResult, length, map}
+use Rattle.std.specs.Prelude.{◌≡◌, ◌≢◌, ◌<◌, [], ◌∷◌, ℕ, List, Result, Ok, Err, MatchResult, length, map, take}
+use Rattle.std.specs.List.{filter}
+use Rattle.std.specs.Str.{bytes_eq}
 use Rattle.csv.specs.Reading.{records, strip_bom}
 use Rattle.run_settings.specs.TableSettings.{byte_of}
 use Rattle.columns.specs.declared.fault.ColumnFault.{ColumnFault}
@@ -24,6 +26,10 @@ records_in s bytes = records (config_of s) (strip_bom bytes)
 abbrev pub IsAnswerBy : AbstractForm → List ℕ → Result (List NamedColumn) ColumnFault → Type 0
 IsAnswerBy form bytes answer =
     MatchResult answer (λ columns. cells_by form bytes ≡ Ok columns) (λ fault. fault ≢ Read → fault ≢ NoMemory → cells_by form bytes ≡ Err fault)
+
+-- the keys that begin with a name
+abbrev pub begun_by : List ℕ → List (List ℕ) → List (List ℕ)
+begun_by name keys = filter (λ key. bytes_eq name (take (length name) key)) keys
 
 -- the numbers of decimal places of a look at a column
 abbrev pub places_in : Look → List ℕ

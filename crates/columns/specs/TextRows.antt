@@ -127,6 +127,10 @@ abbrev pub HaveRows : ℕ → List NamedColumn → Type 0
 HaveRows n [] = Unit {0}
 HaveRows n (c ∷ columns) = (length c.cells ≡ n) × HaveRows n columns
 
+-- all columns have the same number of cells
+abbrev pub AreEven : List NamedColumn → Type 0
+AreEven columns = (n : ℕ) × HaveRows n columns
+
 -- the first record of a text ends at a place, whatever comes after it
 pub record EndsFirst (s : ℕ) (xs : List ℕ) (end : ℕ) : Type 0 where
   pub fields : List (List ℕ)

@@ -1,12 +1,11 @@
 //! Rows that are read by their records: those from the first row on that isn't plain, and the rows of a file whose
 //! header isn't plain.
-ghost use Rattle.std.specs.Prelude.{◌≡◌, ◌≢◌, ◌++◌, ◌+◌, ◌<◌, ◌≤◌, ◌-◌, ℕ, List, IfErr, length, map};
+ghost use Rattle.std.specs.Prelude.{◌≡◌, ◌≢◌, ◌++◌, ◌≤◌, ◌-◌, ℕ, List, IfErr, length, map};
 ghost use Rattle.std.specs.Io.KnownBytes.{Consumes};
 ghost use Rattle.counted_io.specs.FailureCounts.{HasRisen};
 ghost use Rattle.csv.specs.Reading.{strip_bom};
 ghost use Rattle.columns.specs.Fronts.{ArePutUnder, IsPutBy, IsReadWhole};
 ghost use Rattle.columns.specs.Layouts.{Fits, IsAnswerBy, form_of, records_in};
-ghost use Rattle.columns.specs.Pieces.{cells_at};
 ghost use Rattle.columns.specs.Records.{IsReading};
 ghost use Rattle.tables.specs.TableOfColumns.{named};
 
@@ -17,6 +16,7 @@ use crate::records::{next_record, reader_of};
 use crate::round_bytes::read_on;
 use crate::rounds::MARK;
 use crate::rows::{columns_of_header, read_rows};
+use crate::text_rows::row_count;
 use counted_io::CountedRead;
 use csv::{ByteRecord, Reader};
 use std::alloc::Global;
@@ -102,16 +102,8 @@ fn put_records(
 {
     let mut reader = reader_of(alloc, text, layout.separator);
     let mut row = ByteRecord::new(alloc);
-    let number = next_row(columns);
+    let number = row_count(columns) + 1;
     read_rows(&mut reader, &mut row, columns, layout, number)
-}
-
-/// The number of the row that comes under the columns next.
-fn next_row(columns: &[Column]) -> usize
-    requires { 0 < length columns.now }
-    ensures { result ≡ length (cells_at (map named columns.now) 0) + 1 }
-{
-    columns[0].cells.len() + 1
 }
 
 /// The columns of some bytes by their records, whatever these are.

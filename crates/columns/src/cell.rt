@@ -30,6 +30,7 @@ pub(crate) fn read_filled(blank: Option<i64>, cell: &[u8]) -> Option<i64>
     }
 }
 
+/// Whether a text is of spaces and tabs alone; one without bytes is.
 pub(crate) fn are_blanks(text: &[u8]) -> bool
     ensures { result ≡ list_all is_blank text.now }
 {
@@ -52,6 +53,7 @@ fn is_blank(byte: u8) -> bool
     byte == b' ' || byte == b'\t'
 }
 
+/// The cell from its first byte on that is neither a space nor a tab.
 pub(crate) fn without_first_blanks(cell: &[u8]) -> &[u8]
     ensures { result.now ≡ drop_blanks cell.now }
 {
@@ -65,6 +67,7 @@ pub(crate) fn without_first_blanks(cell: &[u8]) -> &[u8]
     rest
 }
 
+/// The cell up to its last byte that is neither a space nor a tab.
 pub(crate) fn without_last_blanks(cell: &[u8]) -> &[u8]
     ensures { result.now ≡ reverse (drop_blanks (reverse cell.now)) }
 {

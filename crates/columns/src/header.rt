@@ -35,7 +35,15 @@ enum RecordPlace {
 pub(crate) fn without_mark(bytes: &[u8]) -> &[u8]
     ensures { result.now ≡ strip_bom bytes.now }
 {
-    if has_mark(bytes) { &bytes[3..] } else { bytes }
+    &bytes[mark_end(bytes)..]
+}
+
+/// Where a byte order mark at the start of the bytes ends, or 0 if there is none.
+pub(crate) fn mark_end(bytes: &[u8]) -> usize
+    ensures within { result ≤ length bytes.now }
+    ensures rest { drop result bytes.now ≡ strip_bom bytes.now }
+{
+    if has_mark(bytes) { 3 } else { 0 }
 }
 
 /// Whether the bytes begin with a byte order mark.

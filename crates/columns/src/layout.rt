@@ -4,7 +4,7 @@ ghost use Rattle.std.specs.List.{list_any};
 ghost use Rattle.std.specs.Str.{bytes_eq};
 ghost use Rattle.csv.specs.Records.{fields_of};
 ghost use Rattle.job_names.specs.ColumnKeys.{key_of};
-ghost use Rattle.columns.specs.Layouts.{IsLayout, form_of, places_in};
+ghost use Rattle.columns.specs.Layouts.{IsLayout, begun_by, form_of, places_in};
 ghost use Rattle.columns.specs.TableForms.{looks_of, looks_or, named_looks};
 ghost use Rattle.columns.specs.TextRows.{look_count};
 
@@ -134,23 +134,32 @@ const ALL_PLACES: [u8; 19] = [
 fn named_places(alloc: Global, keys: &[Vec<u8>], name: &[u8]) -> Result<Vec<u8>, AllocError>
     ensures { IfOk result (λ places. places.items ≡ named_looks (map (λ key. key.items) keys.now) name.now) }
 {
+    let begun = begun_keys(alloc, keys, name)?;
     let mut named = Vec::new(alloc);
-    if !is_begun(keys, name) {
-        return Ok(named);
-    }
     for places in &ALL_PLACES {
-        if is_named(keys, name, *places) {
+        if is_named(&begun, name, *places) {
             named.push(*places)?;
         }
     }
     Ok(named)
 }
 
-/// Whether a key begins with the name.
-fn is_begun(keys: &[Vec<u8>], name: &[u8]) -> bool
-    ensures { result ≡ list_any (λ key. bytes_eq name.now (take (length name.now) key.items)) keys.now }
+/// The keys that begin with the name: few, however many there are.
+fn begun_keys<'a>(
+    alloc: Global,
+    keys: &'a [Vec<u8>],
+    name: &[u8],
+) -> Result<Vec<&'a [u8]>, AllocError>
+    ensures { IfOk result (λ begun. map (λ key. key.now) begun.items
+        ≡ begun_by name.now (map (λ key. key.items) keys.now)) }
 {
-    keys.iter().any(|key| begins(key.as_slice(), name))
+    let mut begun = Vec::new(alloc);
+    for key in keys {
+        if begins(key.as_slice(), name) {
+            begun.push(key.as_slice())?;
+        }
+    }
+    Ok(begun)
 }
 
 #[tactic(auto, using(crate::proofs::KeyLemmas::short_key))]
@@ -164,10 +173,10 @@ fn begins(key: &[u8], name: &[u8]) -> bool
 }
 
 /// Whether a key names the column with this many decimal places.
-fn is_named(keys: &[Vec<u8>], name: &[u8], places: u8) -> bool
-    ensures { result ≡ list_any (λ key. bytes_eq (key_of name.now places) key.items) keys.now }
+fn is_named(keys: &[&[u8]], name: &[u8], places: u8) -> bool
+    ensures { result ≡ list_any (λ key. bytes_eq (key_of name.now places) key.now) keys.now }
 {
-    keys.iter().any(|key| is_key(name, places, key.as_slice()))
+    keys.iter().any(|key| is_key(name, places, key))
 }
 
 /// Whether this is the column's key with this many decimal places.

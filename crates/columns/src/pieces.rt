@@ -15,7 +15,7 @@ ghost use Rattle.columns.specs.Layouts.{AreReadBy, Fits};
 ghost use Rattle.columns.specs.Pieces.{ArePut, IsPieceThere, IsPut, append_pieces, blanks};
 ghost use Rattle.tables.specs.Table.{NamedColumn};
 ghost use Rattle.tables.specs.TableOfColumns.{named};
-ghost use Rattle.columns.specs.TextRows.{HaveRows};
+ghost use Rattle.columns.specs.TextRows.{AreEven};
 
 use crate::header::rows_to_expect;
 use crate::layout::Layout;
@@ -42,37 +42,36 @@ pub(crate) struct TextPiece {
     columns: Vec<Column>,
 }
 
-/// Reads the rows from place `from` on, which is the start of a record, under the columns, and answers up to where they
-/// are plain. The columns have no cells, and get the rows before that place.
-pub(crate) fn read_text_rows_by<H: Threads + Sync>(
+/// Pieces for a round of these bytes, whose rows start at `from`: none for one worker, for a file of less than two
+/// pieces, and if there is no memory for them.
+pub(crate) fn pieces_for<H>(
     team: &Team<'_, H>,
     alloc: Global,
-    text: &[u8],
+    bytes: &[u8],
     from: usize,
-    layout: &Layout,
-    columns: &mut [Column],
-) -> Result<usize, AllocError>
-    requires within { from ≤ length text.now }
-    requires fits { Fits layout.now (length columns.old) }
-    requires empty { HaveRows 0 (map named columns.old) }
-    ensures read { IfOk result (λ end. AreReadBy layout.now (drop from text.now) (drop end text.now)
-        (map named columns.old) (map named columns.new)) }
-    ensures within { IfOk result (λ end. end ≤ length text.now) }
+    width: usize,
+) -> Vec<TextPiece>
+    requires { from ≤ length bytes.now }
 {
-    let bytes = team.piece;
-    if text.len() - from <= bytes {
-        return Ok(read_text_rows(text, from, text.len(), layout, columns));
+    if team.workers < 2 || bytes.len() / 2 < team.piece {
+        return Vec::new(alloc);
     }
-    let first = &text[from..from.saturating_add(bytes).min(text.len())];
-    let rows = rows_to_expect(first, first.len(), columns.len());
-    let count = team.workers.min((text.len() - from).div_ceil(bytes.max(1)));
-    let mut pieces = empty_pieces(alloc, count, columns.len(), rows)?;
-    let pieces = pieces.as_mut_slice();
-    read_in_turns(team.rt, text, from, bytes, layout, pieces, columns)
+    let count = team.workers.min(bytes.len().div_ceil(team.piece.max(1)));
+    let rows = &bytes[from..];
+    let first = &rows[..team.piece.min(rows.len())];
+    match empty_pieces(
+        alloc,
+        count,
+        width,
+        rows_to_expect(first, first.len(), width),
+    ) {
+        Ok(pieces) => pieces,
+        Err(AllocError) => Vec::new(alloc),
+    }
 }
 
 /// A number of pieces, none of them read yet, with room for this many rows each.
-pub(crate) fn empty_pieces(
+fn empty_pieces(
     alloc: Global,
     count: usize,
     width: usize,
@@ -103,26 +102,28 @@ fn nameless_columns(alloc: Global, width: usize, rows: usize) -> Result<Vec<Colu
     Ok(columns)
 }
 
-/// Reads the rows from place `from` on, which is the start of a record, in turns of `pieces.len()` pieces, puts them
-/// under the columns and answers up to where they are plain.
+/// Reads the rows of a text, which begins with a record, in turns of `pieces.len()` pieces, puts them under the columns
+/// and answers up to where they are plain. Without pieces they are read under the columns on this thread.
 pub(crate) fn read_in_turns<H: Threads + Sync>(
     rt: &H,
     text: &[u8],
-    from: usize,
     bytes: usize,
     layout: &Layout,
     pieces: &mut [TextPiece],
     columns: &mut [Column],
 ) -> Result<usize, AllocError>
-    requires within { from ≤ length text.now }
     requires fits { Fits layout.now (length columns.old) }
-    ensures read { IfOk result (λ end. AreReadBy layout.now (drop from text.now) (drop end text.now)
+    requires even { AreEven (map named columns.old) }
+    ensures read { IfOk result (λ end. AreReadBy layout.now text.now (drop end text.now)
         (map named columns.old) (map named columns.new)) }
     ensures within { IfOk result (λ end. end ≤ length text.now) }
 {
-    let mut at = from;
+    if pieces.is_empty() {
+        return Ok(read_text_rows(text, 0, text.len(), layout, columns));
+    }
+    let mut at = 0;
     // Each turn takes a byte at least.
-    for _ in from..text.len() {
+    for _ in 0..text.len() {
         if at == text.len() {
             break;
         }

@@ -15,8 +15,8 @@ use crate::by_records::{columns_in, put_rest};
 use crate::fault::ColumnFault;
 use crate::header::{plain_header, without_mark};
 use crate::layout::{Layout, TableForm};
-use crate::pieces::{Team, read_text_rows_by};
-use crate::round_bytes::read_on;
+use crate::pieces::Team;
+use crate::round_bytes::{no_bytes, read_on};
 use crate::rounds::columns_in_rounds;
 use crate::text_rows::read_text_rows;
 use counted_io::{CountedRead, ReadAllFault, read_all_of};
@@ -57,9 +57,9 @@ pub fn read_columns<R: CountedRead>(alloc: Global, reader: &mut R) -> Result<Col
 /// A file of no more than a piece for each worker is read whole first. Of a longer file only these are held: the pieces
 /// in hand, the pieces that are read meanwhile, their cells, and 8 bytes for each cell. A thread is started for each
 /// worker whenever that many pieces are parsed. If there are at least that many columns, threads are started again to
-/// put the cells under the columns. One worker reads and parses in turns: for it, and for a file of one piece, no
-/// thread is started. If a row isn't plain, all bytes from its pieces on are read whole and parsed on one thread: if
-/// the file is refused, or a number is quoted in part.
+/// put the cells under the columns. One worker reads and parses in turns: for it, and for a file of less than two
+/// pieces, no thread is started. If a row isn't plain, all bytes from its pieces on are read whole and parsed on one
+/// thread: if the file is refused, or a number is quoted in part.
 ///
 /// For other programs: `streamrun` reads a table in the form that its settings ask for, by `read_columns_as`.
 pub fn read_columns_by<H: Threads + Sync, R: CountedRead>(
@@ -115,7 +115,7 @@ pub fn read_columns_as<H: Threads + Sync, R: CountedRead>(
     columns_up_to(&team, alloc, reader, limit, form)
 }
 
-/// The columns, or the fault, that `read_columns_as` gives. A file of fewer than `limit` bytes is read whole first.
+/// The columns, or the fault, that `read_columns_as` gives. The first round has `limit` bytes at most.
 fn columns_up_to<H: Threads + Sync, R: CountedRead>(
     team: &Team<'_, H>,
     alloc: Global,
@@ -132,64 +132,8 @@ fn columns_up_to<H: Threads + Sync, R: CountedRead>(
     ensures counts { R.failures reader.old ≤ R.failures reader.new }
 {
     let mut bytes = no_bytes(alloc, reader.likely_size().min(limit - 1) + 1);
-    if !read_on(reader, &mut bytes, limit)? {
-        return columns_in_rounds(team, alloc, reader, bytes, form);
-    }
-    columns_of(team, alloc, &bytes, form)
-}
-
-/// No bytes, with room for this many if there is memory.
-fn no_bytes(alloc: Global, room: usize) -> Vec<u8>
-    ensures { result.items ≡ [] }
-{
-    let mut bytes = Vec::new(alloc);
-    let _ = bytes.reserve_exact(room);
-    bytes
-}
-
-/// The columns of some bytes, whose plain rows are read in pieces, on threads.
-fn columns_of<H: Threads + Sync>(
-    team: &Team<'_, H>,
-    alloc: Global,
-    bytes: &[u8],
-    form: &TableForm,
-) -> Result<Columns, ColumnFault>
-    ensures tells { IsAnswerBy (form_of form.now) bytes.now result }
-    ensures unread { IfErr result (λ fault. fault ≢ ColumnFault.Read) }
-{
-    let Some((mut columns, layout, from)) = plain_header(alloc, bytes, bytes.len(), form) else {
-        return columns_in(alloc, bytes, form);
-    };
-    put_text_by(
-        team,
-        alloc,
-        without_mark(bytes),
-        from,
-        &layout,
-        columns.as_mut_slice(),
-    )?;
-    Ok(Columns::of(columns))
-}
-
-/// Puts the rows of a text from `from` on under the columns, which have no cells yet; plain rows are read in pieces, on
-/// threads.
-fn put_text_by<H: Threads + Sync>(
-    team: &Team<'_, H>,
-    alloc: Global,
-    text: &[u8],
-    from: usize,
-    layout: &Layout,
-    columns: &mut [Column],
-) -> Result<(), ColumnFault>
-    requires within { from ≤ length text.now }
-    requires fits { Fits layout.now (length columns.old) }
-    requires empty { HaveRows 0 (map named columns.old) }
-    ensures put { (form : AbstractForm) → IsFront form layout.now text.now (drop from text.now) (map named columns.old)
-        → IsAnswerOf form text.now result (map named columns.new) }
-    ensures unread { IfErr result (λ fault. fault ≢ ColumnFault.Read) }
-{
-    let end = read_text_rows_by(team, alloc, text, from, layout, columns)?;
-    put_rest(alloc, &text[end..], layout, columns)
+    let is_last = read_on(reader, &mut bytes, limit)?;
+    columns_in_rounds(team, alloc, reader, bytes, is_last, form)
 }
 
 /// The columns of some bytes, read on this thread alone.

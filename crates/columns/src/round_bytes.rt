@@ -1,13 +1,13 @@
 //! The bytes of a round.
 
-ghost use Rattle.std.specs.Prelude.{◌≡◌, ◌⊎◌, ◌<◌, ◌≤◌, ◌-◌, true, IfErr, IfOk, OnOk, length, get_or};
+ghost use Rattle.std.specs.Prelude.{◌≡◌, ◌⊎◌, ◌<◌, ◌≤◌, ◌-◌, [], true, IfErr, IfOk, OnOk, length, get_or};
 ghost use Rattle.std.specs.Io.KnownBytes.{IsAtEnd};
 ghost use Rattle.counted_io.specs.CountedRead.{GaveSome, HasGiven};
 ghost use Rattle.counted_io.specs.FailureCounts.{HasRisen};
 
 use crate::fault::ColumnFault;
 use counted_io::{CountedRead, ReadAllFault, read_up_to};
-use std::alloc::AllocError;
+use std::alloc::{AllocError, Global};
 
 /// Reads on, after the bytes that are there, until they are `limit` bytes, and answers whether the reader is at its
 /// end.
@@ -30,6 +30,15 @@ pub(crate) fn read_on<R: CountedRead>(
         Err(ReadAllFault::Failed) => Err(ColumnFault::Read),
         Err(ReadAllFault::NoMemory) => Err(ColumnFault::NoMemory),
     }
+}
+
+/// No bytes, with room for this many if there is memory.
+pub(crate) fn no_bytes(alloc: Global, room: usize) -> Vec<u8>
+    ensures { result.items ≡ [] }
+{
+    let mut bytes = Vec::new(alloc);
+    let _ = bytes.reserve_exact(room);
+    bytes
 }
 
 /// Replaces the bytes of a vector.

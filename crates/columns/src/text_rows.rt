@@ -1,8 +1,9 @@
 //! Rows of numbers and of cells that aren't looked at, read where they stand in a text, without `csv`.
-ghost use Rattle.std.specs.Prelude.{◌≡◌, ◌∷◌, ◌++◌, [], ◌<◌, ◌≤◌, ◌==◌, ◌||◌, ℕ, ℤ, List};
+ghost use Rattle.std.specs.Prelude.{◌≡◌, ◌∷◌, ◌++◌, [], ◌<◌, ◌≤◌, ◌^◌, ◌==◌, ◌||◌, ℕ, ℤ, List};
 ghost use Rattle.std.specs.Prelude.{false, IfNone, IfSome, length, map, drop, get_or};
 ghost use Rattle.columns.specs.Layouts.{AreReadBy, Fits, looks_in, places_in};
-ghost use Rattle.columns.specs.TextRows.{HaveRows, IsBegun, IsCellThere, IsMarkThere, IsNumberThere, IsRowIn};
+ghost use Rattle.columns.specs.Pieces.{cells_at};
+ghost use Rattle.columns.specs.TextRows.{AreEven, HaveRows, IsBegun, IsCellThere, IsMarkThere, IsNumberThere, IsRowIn};
 ghost use Rattle.columns.specs.TextRows.{IsSeparator, IsTextThere, cut_to, ends_cell};
 ghost use Rattle.tables.specs.Table.{NamedColumn};
 ghost use Rattle.tables.specs.TableOfColumns.{named};
@@ -23,8 +24,7 @@ struct NumberCell {
 }
 
 /// Reads rows from place `from` on, which is the start of a record, under the columns, until one ends at `to` or after
-/// it, and answers where it ended: before `to` if a row isn't plain. The columns have no cells, and get the rows before
-/// that place.
+/// it, and answers where it ended: before `to` if a row isn't plain. The columns get the rows before that place.
 pub(crate) fn read_text_rows(
     text: &[u8],
     from: usize,
@@ -34,30 +34,34 @@ pub(crate) fn read_text_rows(
 ) -> usize
     requires within { (from ≤ to) × (to ≤ length text.now) }
     requires fits { Fits layout.now (length columns.old) }
-    requires empty { HaveRows 0 (map named columns.old) }
+    requires even { AreEven (map named columns.old) }
     ensures read { AreReadBy layout.now (drop from text.now) (drop result text.now)
         (map named columns.old) (map named columns.new) }
     ensures within { (from ≤ result) × (result ≤ length text.now) }
 {
     let mut at = from;
-    let mut rows = 0;
     while at < to {
         if is_line_end(text[at]) {
             at += 1;
         } else {
-            match read_text_row(text, at, layout, columns) {
-                Some(next) => {
-                    at = next;
-                    rows += 1;
-                }
-                None => {
-                    take_back(columns, rows);
-                    return at;
-                }
-            }
+            let rows = row_count(columns);
+            let Some(next) = read_text_row(text, at, layout, columns) else {
+                take_back(columns, rows);
+                return at;
+            };
+            at = next;
         }
     }
     at
+}
+
+/// How many rows the columns have, if each has as many cells as the first.
+pub(crate) fn row_count(columns: &[Column]) -> usize
+    requires { 0 < length columns.now }
+    ensures rows { result ≡ length (cells_at (map named columns.now) 0) }
+    ensures held { result < 2 ^ 63 }
+{
+    columns[0].cells.len()
 }
 
 fn is_line_end(byte: u8) -> bool

@@ -17,7 +17,7 @@ use columns::Columns;
 use job_language::{Job, read_jobs_within};
 use job_meaning::Answer;
 use job_plan::{JobPlan, Plan};
-use job_table::{RunFault, run_jobs};
+use job_table::{RunFault, likely_size, run_jobs};
 use report::{Report, json_by, text_by};
 use run_settings::{Form, Settings};
 use std::alloc::Global;
@@ -80,12 +80,7 @@ fn written<H: Threads + Wait + Sync, G: RunGate + Sync>(
 /// Says to the gate which jobs there are.
 fn announce<G: RunGate>(plan: &Plan, gate: &G) {
     for (number, job) in plan.jobs.iter().enumerate() {
-        let items = if job.leg(0).streams() {
-            0
-        } else {
-            job.likely_size
-        };
-        gate.before_job(number, items);
+        gate.before_job(number, likely_size(job, 0));
     }
 }
 

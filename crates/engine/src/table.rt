@@ -18,10 +18,10 @@ use std::thread::Threads;
 use stream_tokens::{JobTexts, version_within};
 
 /// How many bytes of a column file one thread reads at a time, at most.
-const PIECE: usize = 4 * 1024 * 1024;
+const PIECE: usize = 2 * 1024 * 1024;
 
 /// How many bytes all threads read at a time, at most.
-const ROUND: usize = 4 * PIECE;
+const ROUND: usize = 8 * PIECE;
 
 /// Whether how a column file is read depends on the job file.
 pub(crate) fn reads_by_jobs(settings: &Settings) -> bool

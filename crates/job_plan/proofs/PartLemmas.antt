@@ -17,9 +17,11 @@ use Rattle.reduce_ops.specs.Folds.{ones, unless_faulted}
 use Rattle.reduce_ops.specs.Parts.{StandsFor as FoldStands}
 use Rattle.reduce_ops.proofs.SettledSums.{first_settles as first_sum_settles, sum_settled, sum_settles}
 use Rattle.sort_ops.specs.Parts.{AbstractLeast, done_after, least_of}
+use Rattle.sort_ops.specs.Runs.{with_places}
 use Rattle.find_ops.specs.Finds.{find_answer}
 use Rattle.find_ops.proofs.DecisionLemmas.{settled as find_settled}
 use Rattle.job_plan.specs.Arrays.{AbstractArray, array, array_of, values_then, array_append}
+use Rattle.job_plan.proofs.KeptLemmas.{with_ending}
 use Rattle.job_plan.specs.Parts.{IsFold, EndsFor, StandsEnough, StandsFor, is_running, is_settled, is_fault, may_search, settles}
 use Rattle.job_plan.specs.Plans.{plan_in, plans_in, AbstractPlan}
 use Rattle.prefix_walks.specs.Scans.{AbstractScan, scan, scan_append}
@@ -135,7 +137,8 @@ settled (finding d) n env (part.Find p) a b h s = find_settled d n env p a b h s
 settled collecting n env (part.Array p) a b h s = s ∙ ap array_of (sym (faulted_stays a b (ap (λ (k : AbstractArray). is_fault k.ending) (sym s) ∙ h)))
 settled (scanning f r) n env (part.Prefix p) a b h s = s ∙ ap (scan f r n) (sym (faulted_stays a b (ap (λ (k : AbstractScan). is_fault k.walk.ending) (sym s) ∙ h)))
 settled exactly n env (part.Exact p) a b h s = sum_settled n p a b h s
-settled (sorting m) n env (part.Sorted p) a b h s = s ∙ ap (least_of m) (sym (faulted_stays a b (ap (λ (k : AbstractLeast). is_fault k.kept.ending) (sym s) ∙ h)))
+settled (sorting m places) n env (part.Sorted p) a b h s =
+    s ∙ ap (λ (t : Trace). least_of m (with_places places t)) (sym (faulted_stays a b (ap is_fault (sym (with_ending places a)) ∙ ap (λ (k : AbstractLeast). is_fault k.kept.ending) (sym s) ∙ h)))
 settled (keeping_firsts m) n env (part.Distinct p) a b h s = firsts_settled m p a b h s
 settled e n env p a b h s = s
 
@@ -218,7 +221,8 @@ part_settles (folding f i c) n env (part.Fold p) t h k s = faults (ended (foldin
 part_settles (finding d) n env (part.Find p) t h k s = settles_on (λ r. outcome.Answer (found_answer r)) (find_answer d n env) t (find_settles d n env t (sym (ap is_some s.decision) ∙ h))
 part_settles collecting n env (part.Array p) t h k s = faults (ended collecting n env) t (sym (ap (λ (k : AbstractArray). is_fault k.ending) s) ∙ h)
 part_settles (scanning f r) n env (part.Prefix p) t h k s = faults (ended (scanning f r) n env) t (sym (ap (λ (k : AbstractScan). is_fault k.walk.ending) s) ∙ h)
-part_settles (sorting m) n env (part.Sorted p) t h k s = faults (ended (sorting m) n env) t (sym (ap (λ (k : AbstractLeast). is_fault k.kept.ending) s) ∙ h)
+part_settles (sorting m places) n env (part.Sorted p) t h k s =
+    faults (ended (sorting m places) n env) t (ap is_fault (sym (with_ending places t)) ∙ sym (ap (λ (k : AbstractLeast). is_fault k.kept.ending) s) ∙ h)
 part_settles (keeping_firsts m) n env (part.Distinct p) t h k s = settles_on outcome.Source (λ u. done_after m (distinct_walk [] u)) t (firsts_settle m p t h s)
 part_settles exactly n env (part.Exact p) t h k s = settles_on (λ r. outcome.Answer (exact_answer r)) (exactly_summed n) t (sum_settles n p t h k s)
 part_settles e n env p t h k s = absurd s

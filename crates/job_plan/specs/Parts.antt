@@ -11,6 +11,7 @@ use Rattle.reduce_ops.specs.declared.op.Op.{Op}
 use Rattle.reduce_ops.specs.Parts.{StandsFor as FoldStands}
 use Rattle.reduce_ops.specs.Reaches.{StandsFor as SumStands, is_running as is_running_sum, is_settled as sum_is_settled, may_search as sum_may_search}
 use Rattle.sort_ops.specs.Parts.{AreFirsts, least_of}
+use Rattle.sort_ops.specs.Runs.{with_places}
 use Rattle.find_ops.specs.Parts.{StandsFor as FindStands}
 use Rattle.early_stop.specs.Leaving.{IsEnough}
 use Rattle.job_plan.specs.Arrays.{array_of}
@@ -43,7 +44,7 @@ EndsFor (finding d) n env (part.Find p) t = FindStands d n env p t
 EndsFor collecting n env (part.Array c) t = c ≡ array_of t
 EndsFor (scanning f r) n env (part.Prefix p) t = p ≡ scan f r n t
 EndsFor exactly n env (part.Exact p) t = SumStands n p t
-EndsFor (sorting m) n env (part.Sorted p) t = p ≡ least_of m t
+EndsFor (sorting m places) n env (part.Sorted p) t = p ≡ least_of m (with_places places t)
 EndsFor (keeping_firsts m) n env (part.Distinct p) t = AreFirsts m p t
 EndsFor e n env p t = ⊥
 
@@ -100,7 +101,7 @@ settles (suc k) p = if is_running p then false else is_settled p
 abbrev pub end_keeps_items : AbstractEnd → Bool
 end_keeps_items collecting = true
 end_keeps_items (scanning f r) = true
-end_keeps_items (sorting m) = true
+end_keeps_items (sorting m places) = true
 end_keeps_items (keeping_firsts m) = true
 end_keeps_items e = false
 

@@ -31,8 +31,8 @@ use trace::{End, Fault, Item, NoMemory};
 /// What a piece of a segment's source gives to the end of the segment.
 ///
 /// A fold, an exact sum and a find have a constant size. `toArray` keeps all values. A prefix keeps all items, but
-/// borrows values of the sources if no stage comes before it. A sort keeps all items, or the least ones if no more are
-/// asked for, and `distinct` the first of those with one value.
+/// borrows values of the sources if no stage comes before it. A sort keeps all items or their values, or the least ones
+/// if no more are asked for, and `distinct` the first of those with one value.
 #[derive(Drop)]
 pub enum Part<'p> {
     Fold(FoldPart),
@@ -88,7 +88,7 @@ impl<'p> Part<'p> {
                 Part::Prefix(PrefixPart::none(alloc, *prefix, segment.stages.next()))
             }
             SegmentEnd::ExactSum => Part::Exact(SumPart::none()),
-            SegmentEnd::Sorted { most } => Part::Sorted(SortedPart::none(alloc, *most)),
+            SegmentEnd::Sorted { most, .. } => Part::Sorted(SortedPart::none(alloc, *most)),
             SegmentEnd::Distinct { most } => Part::Distinct(DistinctPart::none(alloc, *most)),
         }
     }

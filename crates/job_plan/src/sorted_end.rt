@@ -9,7 +9,7 @@ ghost use Rattle.job_plan.specs.declared.part.Part.TheVariants as part;
 use crate::end_part::{EndPart, LastStage, is_fault};
 use batch_eval::LaneItems;
 use prefix_walks::GivenWalk;
-use sort_ops::SortedPart;
+use sort_ops::{ItemSlice, SortedPart};
 use trace::{End, NoMemory};
 
 impl EndPart for SortedPart {
@@ -17,11 +17,14 @@ impl EndPart for SortedPart {
 
     fn push_all(
         &mut self,
-        _last: LastStage<'_, '_>,
+        last: LastStage<'_, '_>,
         lanes: LaneItems<'_>,
         _room: &mut [i64],
     ) -> Result<(), NoMemory> {
-        SortedPart::push_all(self, &lanes)
+        if last.end.keeps_places() {
+            return SortedPart::push_all(self, &lanes);
+        }
+        SortedPart::push_all(self, &ItemSlice::Values(lanes.values))
     }
 
     fn end_with(&mut self, ending: End) {

@@ -20,14 +20,14 @@ use Rattle.job_routes.specs.Building.{AreMaps, HasNext, begun_walk, walk_over}
 use Rattle.job_routes.specs.Legs.{AbstractEnd, ended, finding, given_walk, leg_in, leg_outcome, legs_in, linked, links_in, number_after, scanned, walk_through, windowed}
 use Rattle.job_routes.proofs.MapLemmas.{limit_before_maps, limited_end, limited_next, limited_none}
 
--- the last of several legs gives less
-pub last_asked : (m : Option ℕ) (ls : List Leg) (i : ℕ) (x y : Leg) → suc i ≡ length ls → x ≡ get_or ls i x → ((env : Numbers) (t : Trace) → given_walk (leg_outcome (leg_in y) env t) ≡ done_after m (given_walk (leg_outcome (leg_in x) env t)))
-    → (env : Numbers) (t : Trace) → scanned (legs_in (set ls i y)) env t ≡ done_after m (scanned (legs_in ls) env t)
-last_asked m [] i x y last here gives env t = absurd (omega (arith, last))
-last_asked m (z ∷ []) zero x y last here gives env t = gives env t ∙ ap (λ (l : Leg). done_after m (given_walk (leg_outcome (leg_in l) env t))) here
-last_asked m (z ∷ []) (suc i) x y last here gives env t = absurd (omega (arith, last))
-last_asked m (z ∷ w ∷ ls) zero x y last here gives env t = absurd (omega (arith, last))
-last_asked m (z ∷ w ∷ ls) (suc i) x y last here gives env t = last_asked m (w ∷ ls) i x y (omega (arith, last)) here gives env (given_walk (leg_outcome (leg_in z) env t))
+-- the last of several legs does something more
+pub last_does : (does : Trace → Trace) (ls : List Leg) (i : ℕ) (x y : Leg) → suc i ≡ length ls → x ≡ get_or ls i x → ((env : Numbers) (t : Trace) → given_walk (leg_outcome (leg_in y) env t) ≡ does (given_walk (leg_outcome (leg_in x) env t)))
+    → (env : Numbers) (t : Trace) → scanned (legs_in (set ls i y)) env t ≡ does (scanned (legs_in ls) env t)
+last_does does [] i x y last here gives env t = absurd (omega (arith, last))
+last_does does (z ∷ []) zero x y last here gives env t = gives env t ∙ ap (λ (l : Leg). does (given_walk (leg_outcome (leg_in l) env t))) here
+last_does does (z ∷ []) (suc i) x y last here gives env t = absurd (omega (arith, last))
+last_does does (z ∷ w ∷ ls) zero x y last here gives env t = absurd (omega (arith, last))
+last_does does (z ∷ w ∷ ls) (suc i) x y last here gives env t = last_does does (w ∷ ls) i x y (omega (arith, last)) here gives env (given_walk (leg_outcome (leg_in z) env t))
 
 -- a `limit` of `count` items after the first `from` ones needs `from + count` items
 limit_given : (from count : ℕ) (d : Trace) → 0 < count → limited count (windowed from None d) ≡ windowed from None (done_after (Some (from + count)) d)

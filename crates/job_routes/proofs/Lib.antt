@@ -3,5 +3,6 @@ pub mod AskLemmas
 pub mod BuiltLemmas
 pub mod LinkLemmas
 pub mod MapLemmas
+pub mod PlaceLemmas
 pub mod RouteLemmas
 pub mod WindowLemmas

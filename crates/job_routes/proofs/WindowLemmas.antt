@@ -12,6 +12,7 @@ use Rattle.trace.specs.declared.item.End.TheVariants as end
 use Rattle.reduce_ops.specs.Operators.{value_of}
 use Rattle.slice_ops.specs.Slices.{limited, skipped}
 use Rattle.prefix_scan.specs.Prefixes.{Range, ends_after, out_of_array, prefixed, prefixed_to, running}
+use Rattle.sort_ops.specs.Runs.{with_places}
 use Rattle.sort_ops.specs.Orders.{sorted_to, sorted_walk}
 use Rattle.sort_ops.specs.Parts.{done_after}
 use Rattle.job_language.specs.Jobs.{AbstractPlainSource}
@@ -70,7 +71,7 @@ clean_given : (e : AbstractEnd) (n : ℕ) (env : Numbers) (t : Trace) → ((m : 
 clean_given (folding f a counts) n env t other = λ g h. refl
 clean_given (finding d) n env t other = λ g h. refl
 clean_given (scanning f r) n env t other = clean_prefixed (value_of f) r n t
-clean_given (sorting m) n env t other = clean_done m (sorted_walk t) (clean_sorted t)
+clean_given (sorting m places) n env t other = clean_done m (sorted_walk (with_places places t)) (clean_sorted (with_places places t))
 clean_given (keeping_firsts m) n env t other = absurd (other m refl)
 clean_given exactly n env t other = λ g h. refl
 clean_given collecting n env t other = λ g h. refl

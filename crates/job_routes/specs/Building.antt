@@ -1,11 +1,12 @@
 -- Condition: the legs of a job, built stage by stage.
-use Rattle.std.specs.Prelude.{◌≡◌, ◌≤◌, ℕ, suc, List, [], ◌∷◌, Result, Ok, Err, length}
+use Rattle.std.specs.Prelude.{◌≡◌, ◌≤◌, ℕ, suc, false, List, [], ◌∷◌, Result, Ok, Err, length}
 use Rattle.lambda_values.specs.Earlier.{Numbers}
 use Rattle.trace.specs.declared.item.Fault.{Fault}
 use Rattle.lambda_values.specs.declared.item.Item.{Item}
 use Rattle.trace.specs.declared.item.End.TheVariants as end
 use Rattle.trace.specs.Stages.{AbstractStage, pipe}
 use Rattle.trace.specs.Trace.{Trace, trace}
+use Rattle.sort_ops.specs.Runs.{with_places}
 use Rattle.job_language.specs.Jobs.{AbstractPlainSource}
 use Rattle.job_meaning.specs.Walks.{source_walk}
 use Rattle.job_routes.specs.declared.building.Begun.{Begun}
@@ -23,6 +24,10 @@ AreMaps gs = (m : ℕ) (env : Numbers) (x : Item) → (r : Result Item Fault) ×
 -- a walk without an item before a fault
 abbrev pub IsClean : Trace → Type 0
 IsClean t = (f : Fault) → t.ending ≡ end.Fault f → t.items ≡ []
+
+-- stages make items of the same values of a walk, whatever the places of its items are
+abbrev pub IgnorePlaces : List AbstractStage → Type 0
+IgnorePlaces gs = (n : ℕ) (env : Numbers) (t : Trace) → pipe n gs env (with_places false t) ≡ with_places false (pipe n gs env t)
 
 -- what a walk over sources is after its legs, and after its slices
 abbrev pub walk_over : Begun → Numbers → List AbstractPlainSource → Trace

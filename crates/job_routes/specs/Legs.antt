@@ -16,6 +16,7 @@ use Rattle.prefix_scan.specs.Prefixes.{Range, prefixed}
 use Rattle.sort_ops.specs.Firsts.{distinct_walk}
 use Rattle.sort_ops.specs.Orders.{sorted_walk}
 use Rattle.sort_ops.specs.Parts.{done_after}
+use Rattle.sort_ops.specs.Runs.{with_places}
 use Rattle.prefix_walks.specs.Batches.{counted_as}
 use Rattle.prefix_walks.specs.Pieces.{elements}
 use Rattle.find_ops.specs.Finds.{Find, any_match, all_match, find_answer, find_of, first as find_first, none_match}
@@ -35,14 +36,15 @@ use Rattle.job_routes.specs.declared.leg.Leg.{Leg}
 use Rattle.job_routes.specs.declared.leg.Link.{Link}
 
 -- the end of a segment: a fold (its operator, its start, and whether it counts), a find or a match, the values, an exact
--- sum, a prefix (its operator and its range), a `sorted` or a `distinct` (how many items are asked of it, or all)
+-- sum, a prefix (its operator and its range), a `sorted` (how many items are asked of it, or all, and whether they keep
+-- their places), or a `distinct` (how many items are asked of it)
 pub data AbstractEnd : Type 0 where
   folding : Op → Option ℤ → Bool → AbstractEnd
   finding : Find → AbstractEnd
   collecting : AbstractEnd
   exactly : AbstractEnd
   scanning : Op → Range → AbstractEnd
-  sorting : Option ℕ → AbstractEnd
+  sorting : Option ℕ → Bool → AbstractEnd
   keeping_firsts : Option ℕ → AbstractEnd
 
 -- stages that look at one item at a time, the first one with this number, and what ends them
@@ -93,7 +95,7 @@ abbrev pub ended : AbstractEnd → ℕ → Numbers → Trace → Outcome
 ended (folding f a counts) n env t = outcome.Answer (unless_fault t.ending (folded f a (counted_as counts t.items)))
 ended (finding d) n env t = outcome.Answer (found_answer (find_answer d n env t))
 ended (scanning f r) n env t = outcome.Source (prefixed (value_of f) r n t)
-ended (sorting most) n env t = outcome.Source (done_after most (sorted_walk t))
+ended (sorting most places) n env t = outcome.Source (done_after most (sorted_walk (with_places places t)))
 ended (keeping_firsts most) n env t = outcome.Source (done_after most (distinct_walk [] t))
 ended exactly n env t = outcome.Answer (exact_answer (exactly_summed n t))
 ended collecting n env t = outcome.Answer (unless_fault t.ending (answer.Array (each_of (λ (x : Item). x.value) t.items)))
@@ -141,7 +143,7 @@ sums_many (folding f start counts) many = false
 sums_many (finding d) many = false
 sums_many collecting many = false
 sums_many (scanning f r) many = false
-sums_many (sorting most) many = false
+sums_many (sorting most places) many = false
 sums_many (keeping_firsts most) many = false
 
 -- whether a segment is walked in order: an exact sum of the many items that one may be made into, where the only end of a
@@ -202,7 +204,7 @@ end_in (ends.Find d) = finding (find_of d)
 end_in ends.Array = collecting
 end_in ends.ExactSum = exactly
 end_in (ends.Prefix p) = scanning p.op p.range
-end_in (ends.Sorted most) = sorting most
+end_in (ends.Sorted most places) = sorting most places
 end_in (ends.Distinct most) = keeping_firsts most
 
 -- the test that an end asks of items: a match has one
@@ -215,7 +217,7 @@ test_of (finding (none_match p)) = Some p
 test_of collecting = None
 test_of exactly = None
 test_of (scanning f r) = None
-test_of (sorting most) = None
+test_of (sorting most places) = None
 test_of (keeping_firsts most) = None
 
 -- whether an end takes lanes with their flags: a fold whose operator has an identity, and `findFirst`
@@ -228,8 +230,13 @@ takes_flags (finding (none_match p)) = false
 takes_flags collecting = false
 takes_flags exactly = false
 takes_flags (scanning f r) = false
-takes_flags (sorting most) = false
+takes_flags (sorting most places) = false
 takes_flags (keeping_firsts most) = false
+
+-- whether items that come to an end keep their places: those of a `sorted` may not
+abbrev pub keeps_places : AbstractEnd → Bool
+keeps_places (sorting most places) = places
+keeps_places e = true
 
 -- the number of the stage after stages of the program, and what these make of a walk
 abbrev pub number_after : NumberedStages → ℕ

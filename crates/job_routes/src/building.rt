@@ -230,7 +230,10 @@ impl Begun {
                 let range = positions;
                 self.scan(SegmentEnd::Prefix(Prefix { op, range }))
             }
-            JobStage::Sorted => self.scan(SegmentEnd::Sorted { most: None }),
+            JobStage::Sorted => self.scan(SegmentEnd::Sorted {
+                most: None,
+                places: true,
+            }),
             JobStage::Distinct => self.scan(SegmentEnd::Distinct { most: None }),
         }
     }
@@ -272,6 +275,7 @@ pub fn legs_of(
     }
     begun.ask_for(&end);
     let walked = begun.end_for(end);
+    begun.drop_places(&walked);
     let last = begun.take_leg(walked);
     Ok((begun.scans, last))
 }

@@ -4,11 +4,12 @@ ghost use Rattle.std.specs.Prelude.{◌≡◌, ◌≢◌, ℕ, IsTrue, Option, N
 ghost use Rattle.job_language.specs.Jobs.{terminal_of};
 ghost use Rattle.job_meaning.specs.Walks.{number_as};
 ghost use Rattle.find_ops.specs.Finds.{first};
-ghost use Rattle.job_routes.specs.Legs.{end_in, end_of, fallback_in, finding, folding, keeping_firsts, takes_flags};
-ghost use Rattle.job_routes.specs.Legs.{ended, given_walk, test_of};
+ghost use Rattle.job_routes.specs.Legs.{end_in, end_of, fallback_in, finding, folding, keeping_firsts, keeps_places};
+ghost use Rattle.job_routes.specs.Legs.{ended, given_walk, takes_flags, test_of};
 ghost use Rattle.lambda_values.specs.Earlier.{Numbers};
 ghost use Rattle.lambda_values.specs.Term.{truth_of};
 ghost use Rattle.sort_ops.specs.Parts.{done_after};
+ghost use Rattle.sort_ops.specs.Runs.{with_places};
 ghost use Rattle.trace.specs.Trace.{Trace};
 
 use crate::fallback::Fallback;
@@ -42,9 +43,15 @@ pub enum SegmentEnd {
     /// `reduce(0, Math::addExact)`.
     ExactSum,
     /// `sorted`, and how many items are asked for, if not all.
-    Sorted { most: Option<u64> },
+    Sorted {
+        most: Option<u64>,
+        /// Whether the items keep their places.
+        places: bool,
+    },
     /// `distinct`, and how many items are asked for, if not all.
-    Distinct { most: Option<u64> },
+    Distinct {
+        most: Option<u64>,
+    },
 }
 
 impl SegmentEnd {
@@ -107,7 +114,7 @@ impl SegmentEnd {
         ensures same { result ≡ false → self.new ≡ self.old }
     {
         match self {
-            SegmentEnd::Sorted { most } => {
+            SegmentEnd::Sorted { most, .. } => {
                 *most = Some(at_most(*most, enough));
                 true
             }
@@ -115,6 +122,45 @@ impl SegmentEnd {
                 *most = Some(at_most(*most, enough));
                 true
             }
+            _ => false,
+        }
+    }
+
+    /// Has a `sorted` keep the values of its items alone. Whether it is one.
+    pub(crate) fn drop_places(&mut self) -> bool
+        ensures dropped { result ≡ true → (n : ℕ) (env : Numbers) (t : Trace)
+            → given_walk (ended (end_in self.new) n env t)
+            ≡ with_places false (given_walk (ended (end_in self.old) n env t)) }
+        ensures same { result ≡ false → self.new ≡ self.old }
+    {
+        match self {
+            SegmentEnd::Sorted { places, .. } => {
+                *places = false;
+                true
+            }
+            _ => false,
+        }
+    }
+
+    /// Whether items keep their places where they are kept for it.
+    pub fn keeps_places(&self) -> bool
+        ensures { result ≡ keeps_places (end_in self.now) }
+    {
+        match self {
+            SegmentEnd::Sorted { places, .. } => *places,
+            _ => true,
+        }
+    }
+
+    /// Whether what it gives rests on the values of items alone.
+    pub(crate) fn ignores_places(&self) -> bool
+        ensures { IsTrue result → (n : ℕ) (env : Numbers) (t : Trace)
+            → ended (end_in self.now) n env (with_places false t) ≡ ended (end_in self.now) n env t }
+    {
+        match self {
+            SegmentEnd::Fold(_) => true,
+            SegmentEnd::Array => true,
+            SegmentEnd::Find(find) => matches!(find, FindTerminal::First),
             _ => false,
         }
     }

@@ -4,6 +4,7 @@ ghost use Rattle.std.specs.Prelude.{◌≡◌, ◌≤◌, Some, false, length, t
 ghost use Rattle.lambda_values.specs.Earlier.{Numbers};
 ghost use Rattle.trace.specs.Trace.{Trace};
 ghost use Rattle.sort_ops.specs.Parts.{done_after};
+ghost use Rattle.sort_ops.specs.Runs.{with_places};
 
 use crate::numbered_stages::NumberedStages;
 use crate::segment::Segment;
@@ -50,5 +51,16 @@ impl Leg {
             → given_walk (leg_outcome (leg_in self.new) env t) ≡ given_walk (leg_outcome (leg_in self.old) env t) }
     {
         self.last.end.ask(enough)
+    }
+
+    /// Has a `sorted` at its end keep the values of its items alone. Whether there is one.
+    pub(crate) fn drop_places(&mut self) -> bool
+        ensures dropped { result ≡ true → (env : Numbers) (t : Trace)
+            → given_walk (leg_outcome (leg_in self.new) env t)
+            ≡ with_places false (given_walk (leg_outcome (leg_in self.old) env t)) }
+        ensures same { result ≡ false → (env : Numbers) (t : Trace)
+            → given_walk (leg_outcome (leg_in self.new) env t) ≡ given_walk (leg_outcome (leg_in self.old) env t) }
+    {
+        self.last.end.drop_places()
     }
 }

@@ -18,6 +18,7 @@ mod leg;
 mod maps;
 mod numbered_stages;
 mod outcome;
+mod placeless;
 mod segment;
 
 pub use building::legs_of;

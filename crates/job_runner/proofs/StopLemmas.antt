@@ -1,4 +1,4 @@
--- Which word belongs to a segment.
+-- Which word belongs to a leg.
 use Rattle.std.proofs.Common.{◌≡◌, ℕ, zero, suc, ◌+◌, ◌-◌, ◌<◌, ◌≤◌, Bool, true, false, cond, nat_lt, le-ltb, lt-ltb, sym, refl, ap, ◌∙◌, subst, arith}
 use Rattle.early_stop.specs.Decisive.{IsDecisive}
 use Rattle.job_runner.specs.Runs.{DecidesIn, RunSpec, first_word, pair_at, pair_from, words_from}
@@ -31,12 +31,12 @@ there last job (suc j) n k h =
     ∙ there last (suc job) j n k low
     ∙ (λ i. (e i, k))
 
--- the word of a segment
-pub word_at : (last : ℕ → ℕ) (jobs job segment : ℕ) → job < jobs → segment ≤ last job → pair_at last jobs (first_word last job + segment) ≡ (job, segment)
-word_at last jobs job segment h k =
+-- the word of a leg
+pub word_at : (last : ℕ → ℕ) (jobs job leg : ℕ) → job < jobs → leg ≤ last job → pair_at last jobs (first_word last job + leg) ≡ (job, leg)
+word_at last jobs job leg h k =
     let e : jobs ≡ job + suc (jobs - suc job) = omega arith in
     let z : 0 + job ≡ job = omega arith in
-    ap (λ n. pair_from last 0 n (first_word last job + segment)) e ∙ there last 0 job (jobs - suc job) segment (subst (λ j. segment ≤ last j) (sym z) k) ∙ (λ i. (z i, segment))
+    ap (λ n. pair_from last 0 n (first_word last job + leg)) e ∙ there last 0 job (jobs - suc job) leg (subst (λ j. leg ≤ last j) (sym z) k) ∙ (λ i. (z i, leg))
 
 words_more : (last : ℕ → ℕ) (job n : ℕ) → words_from last job (suc n) ≡ words_from last job n + suc (last (job + n))
 words_more last job zero = let e : job + 0 ≡ job = omega arith in let s : suc (last job) + 0 ≡ 0 + suc (last job) = omega arith in s ∙ ap (λ j. 0 + suc (last j)) (sym e)
@@ -51,13 +51,13 @@ pub next_word : (last : ℕ → ℕ) (job : ℕ) → first_word last (suc job) �
 next_word last job = words_more last 0 job ∙ (let z : 0 + job ≡ job = omega arith in ap (λ j. words_from last 0 job + suc (last j)) z)
 
 module _ {O P S A G : Type 0} (run : RunSpec O P S A G) where
-  -- a place of the word's segment is one of the segment that has the word
-  pub decisive_there : (p : ℕ × ℕ) (job segment c : ℕ) → p ≡ (job, segment) → IsDecisive (run.gives p.0 p.1) (run.goes_over p.0 p.1) c → IsDecisive (run.gives job segment) (run.goes_over job segment) c
-  decisive_there p job segment c e h = subst (λ (q : ℕ × ℕ). IsDecisive (run.gives q.0 q.1) (run.goes_over q.0 q.1) c) e h
+  -- a place of the word's leg is one of the leg that has the word
+  pub decisive_there : (p : ℕ × ℕ) (job leg c : ℕ) → p ≡ (job, leg) → IsDecisive (run.gives p.0 p.1) (run.goes_over p.0 p.1) c → IsDecisive (run.gives job leg) (run.goes_over job leg) c
+  decisive_there p job leg c e h = subst (λ (q : ℕ × ℕ). IsDecisive (run.gives q.0 q.1) (run.goes_over q.0 q.1) c) e h
 
-  pub decisive_here : (p : ℕ × ℕ) (job segment c : ℕ) → p ≡ (job, segment) → DecidesIn run job segment c → IsDecisive (run.gives p.0 p.1) (run.goes_over p.0 p.1) c
-  decisive_here p job segment c e h = subst (λ (q : ℕ × ℕ). IsDecisive (run.gives q.0 q.1) (run.goes_over q.0 q.1) c) (sym e) (λ _. h)
+  pub decisive_here : (p : ℕ × ℕ) (job leg c : ℕ) → p ≡ (job, leg) → DecidesIn run job leg c → IsDecisive (run.gives p.0 p.1) (run.goes_over p.0 p.1) c
+  decisive_here p job leg c e h = subst (λ (q : ℕ × ℕ). IsDecisive (run.gives q.0 q.1) (run.goes_over q.0 q.1) c) (sym e) (λ _. h)
 
-  -- a place by other names for job and segment
+  -- a place by other names for job and leg
   pub decides_for : (j j' k k' c : ℕ) → j ≡ j' → k ≡ k' → DecidesIn run j k c → DecidesIn run j' k' c
   decides_for j j' k k' c ej ek h = subst (λ (i : ℕ). DecidesIn run i k' c) ej (subst (λ (i : ℕ). DecidesIn run j i c) ek h)

@@ -3,36 +3,36 @@ ghost use Rattle.std.specs.Prelude.{◌≡◌, ◌<◌, ◌≤◌, ℕ, IfNone, 
 
 use crate::NoMemory;
 use crate::earlier::Earlier;
-use crate::piece::{Piece, SegmentInput};
-use crate::segments::{Begun, JobSegments};
+use crate::legs::{Begun, JobLegs};
+use crate::piece::{LegInput, Piece};
 use early_stop::Never;
 use std::alloc::Global;
 use worker_pool::Gate;
 
-/// Walks a whole segment as one piece.
-fn walk_whole<S: JobSegments>(
+/// Walks a whole leg as one piece.
+fn walk_whole<S: JobLegs>(
     alloc: Global,
     jobs: &S,
     job: usize,
-    segment: usize,
-    input: SegmentInput<'_, '_, S::Source, S::Given, Earlier<'_, S>>,
+    leg: usize,
+    input: LegInput<'_, '_, S::Source, S::Given, Earlier<'_, S>>,
     scratch: &mut S::Scratch,
 ) -> Result<S::Part, NoMemory>
     requires job { job < S.run.jobs }
-    requires segment { segment ≤ S.run.last job }
-    requires first { IfNone input.source (segment ≡ 0) }
-    requires source { IfSome input.source (λ source. S.run.is_source job segment source.now) }
-    requires size { input.size ≡ S.run.size job segment }
+    requires leg { leg ≤ S.run.last job }
+    requires first { IfNone input.source (leg ≡ 0) }
+    requires source { IfSome input.source (λ source. S.run.is_source job leg source.now) }
+    requires size { input.size ≡ S.run.size job leg }
     requires given { S.run.is_given job input.given.now }
-    ensures { IfOk result (λ part. S.run.stands_for job segment 0 (S.run.size job segment) part) }
+    ensures { IfOk result (λ part. S.run.stands_for job leg 0 (S.run.size job leg) part) }
 {
-    let all = Piece::all(job, segment, input.size);
+    let all = Piece::all(job, leg, input.size);
     jobs.leaf(alloc, all, input, scratch, &mut Never)
 }
 
-/// Walks all segments of a job, each as one piece. It enters the gate once, for all of the job's source. `size` is how
-/// many positions that has.
-fn walk_alone<'x, S: JobSegments, G: Gate>(
+/// Walks all legs of a job, each as one piece. It enters the gate once, for all of the job's source. `size` is how many
+/// positions that has.
+fn walk_alone<'x, S: JobLegs, G: Gate>(
     alloc: Global,
     gate: &G,
     jobs: &S,
@@ -47,23 +47,23 @@ fn walk_alone<'x, S: JobSegments, G: Gate>(
     ensures { IfOk result (λ answer. S.run.is_answer job answer) }
 {
     gate.at_leaf(job, 0, size);
-    let last = jobs.last_segment(job);
+    let last = jobs.last_leg(job);
     let mut scratch = jobs.scratch(alloc);
     let mut size = size;
     let mut source = None;
-    for segment in 0..last {
-        let input = SegmentInput {
+    for leg in 0..last {
+        let input = LegInput {
             source: source.as_ref(),
             size,
             given,
             earlier,
         };
-        let part = walk_whole(alloc, jobs, job, segment, input, &mut scratch)?;
-        let next = jobs.next_source(alloc, job, segment, part, given)?;
+        let part = walk_whole(alloc, jobs, job, leg, input, &mut scratch)?;
+        let next = jobs.next_source(alloc, job, leg, part, given)?;
         size = next.size;
         source = Some(next.source);
     }
-    let input = SegmentInput {
+    let input = LegInput {
         source: source.as_ref(),
         size,
         given,
@@ -74,7 +74,7 @@ fn walk_alone<'x, S: JobSegments, G: Gate>(
 }
 
 /// Works a job out after the jobs before it, and calls the gate.
-pub(crate) fn answer_alone<S: JobSegments, G: Gate>(
+pub(crate) fn answer_alone<S: JobLegs, G: Gate>(
     alloc: Global,
     gate: &G,
     jobs: &S,

@@ -9,7 +9,7 @@ ghost use Rattle.job_runner.specs.Waits.{nodes_in};
 
 use crate::NoMemory;
 use crate::cut::{CutPiece, TableCounts, TableSeat};
-use crate::segments::JobSegments;
+use crate::legs::JobLegs;
 use crate::start::{Start, Waiting};
 use completion_core::{END, Node};
 use pending_count::{Counts, Fits, Seat};
@@ -133,7 +133,7 @@ fn arm_one<V, K: Fits<V, Tag = CutPiece>>(
 
 /// Claims and arms the start nodes of all jobs, the last job's first, so that what a node keeps has smaller numbers.
 /// `None` if there are too few nodes.
-pub(crate) fn arm_all<S: JobSegments>(
+pub(crate) fn arm_all<S: JobLegs>(
     alloc: Global,
     jobs: &S,
     counts: &TableCounts<S>,

@@ -6,17 +6,17 @@ ghost use Rattle.pending_count.specs.declared.place.Side.TheVariants.{Whole};
 ghost use Rattle.job_runner.specs.Cuts.{begins, ends_at, Fits, IsPiece, IsSideOf, StandsWhole};
 ghost use Rattle.job_runner.specs.Cuts.{stands_moved, stands_whole};
 
+use crate::legs::JobLegs;
 use crate::piece::Piece;
-use crate::segments::JobSegments;
 use completer_tree::{Completer, Continuation, Failure, Handed, PartValue, TreeCounts, TreeSeat};
 use pending_count::{Place, Side};
 use std::marker::PhantomData;
 
-/// A piece of a segment of a job that is cut in two: the left side is the positions before `middle`.
+/// A piece of a leg of a job that is cut in two: the left side is the positions before `middle`.
 #[derive(Clone, Copy)]
 pub struct CutPiece {
     pub job: usize,
-    pub segment: usize,
+    pub leg: usize,
     pub from: u64,
     pub middle: u64,
     pub to: u64,
@@ -26,21 +26,16 @@ impl CutPiece {
     /// A cut in the middle. If the two sides can't be equally long, the right one is one longer.
     pub(crate) fn halves(piece: Piece) -> CutPiece
         requires { piece.from + 1 < piece.to }
-        ensures of { (result.job ≡ piece.job) × (result.segment ≡ piece.segment) × (result.from ≡ piece.from)
+        ensures of { (result.job ≡ piece.job) × (result.leg ≡ piece.leg) × (result.from ≡ piece.from)
             × (result.to ≡ piece.to) }
         ensures within { (result.from < result.middle) × (result.middle < result.to) }
         ensures middle { (result.middle - piece.from ≤ piece.to - result.middle)
             × (piece.to - result.middle ≤ result.middle - piece.from + 1) }
     {
-        let Piece {
-            job,
-            segment,
-            from,
-            to,
-        } = piece;
+        let Piece { job, leg, from, to } = piece;
         CutPiece {
             job,
-            segment,
+            leg,
             from,
             middle: from + (to - from) / 2,
             to,
@@ -59,7 +54,7 @@ pub(crate) fn is_left(place: &Place<CutPiece>) -> bool
 /// One side of a cut.
 pub(crate) fn side_at(place: &Place<CutPiece>) -> Piece
     requires { place.now.side ≢ Whole }
-    ensures of { (result.job ≡ place.now.tag.job) × (result.segment ≡ place.now.tag.segment) }
+    ensures of { (result.job ≡ place.now.tag.job) × (result.leg ≡ place.now.tag.leg) }
     ensures positions { (result.from ≡ begins place.now.tag place.now.side)
         × (result.to ≡ ends_at place.now.tag place.now.side) }
 {
@@ -71,7 +66,7 @@ pub(crate) fn side_at(place: &Place<CutPiece>) -> Piece
     };
     Piece {
         job: cut.job,
-        segment: cut.segment,
+        leg: cut.leg,
         from,
         to,
     }
@@ -88,45 +83,45 @@ pub enum Merged<P> {
 
 /// A part as completion trees see it.
 #[derive(Drop)]
-pub struct SegmentPart<S: JobSegments> {
+pub struct LegPart<S: JobLegs> {
     pub(crate) found: Merged<S::Part>,
     pub(crate) of: PhantomData<S>,
 }
 
-impl<S: JobSegments> SegmentPart<S> {
+impl<S: JobLegs> LegPart<S> {
     /// A part that is handed in.
-    pub(crate) fn of_part(part: S::Part) -> SegmentPart<S>
+    pub(crate) fn of_part(part: S::Part) -> LegPart<S>
         ensures { result.found ≡ Merged.Part part }
     {
-        SegmentPart {
+        LegPart {
             found: Merged::Part(part),
             of: PhantomData,
         }
     }
 }
 
-impl<S: JobSegments> PartValue for SegmentPart<S> {
+impl<S: JobLegs> PartValue for LegPart<S> {
     type Tag = CutPiece;
 
     ghost fits = { λ cut side v. Fits S.run (λ x. x.found) cut side v };
 
-    ghost result = { λ cut v. StandsWhole S.run (λ x. x.found) cut.job cut.segment v };
+    ghost result = { λ cut v. StandsWhole S.run (λ x. x.found) cut.job cut.leg v };
 }
 
 /// Merges the parts of the two sides of a cut. A fault on a side goes on to the parent; at the top of a tree it is
 /// caught.
 #[derive(Drop)]
-pub struct Join<S: JobSegments> {
+pub struct Join<S: JobLegs> {
     pub(crate) cut: CutPiece,
     pub(crate) parent: Option<(CutPiece, bool)>,
     pub(crate) of: PhantomData<S>,
-    ghost piece: { IsPiece S.run.jobs S.run.last S.run.size cut.job cut.segment cut.from cut.to },
+    ghost piece: { IsPiece S.run.jobs S.run.last S.run.size cut.job cut.leg cut.from cut.to },
     ghost within: { (cut.from < cut.middle) × (cut.middle < cut.to) },
     ghost side: { (p : _) → parent ≡ Some p → IsSideOf cut p },
-    ghost top: { parent ≡ None → (cut.from ≡ 0) × (cut.to ≡ S.run.size cut.job cut.segment) },
+    ghost top: { parent ≡ None → (cut.from ≡ 0) × (cut.to ≡ S.run.size cut.job cut.leg) },
 }
 
-impl<S: JobSegments> Continuation<SegmentPart<S>> for Join<S> {
+impl<S: JobLegs> Continuation<LegPart<S>> for Join<S> {
     ghost tag_of = { λ c. c.cut };
 
     ghost goes_to = { λ c. c.parent };
@@ -134,7 +129,7 @@ impl<S: JobSegments> Continuation<SegmentPart<S>> for Join<S> {
     ghost leads = { λ c p e v h. stands_moved S.run (λ x. x.found) v (c.side p e).0 (c.side p e).1 h };
 
     ghost ends = { λ c e v h.
-        stands_whole S.run (λ x. x.found) v c.cut.job c.cut.segment (c.top e).0 (c.top e).1 h };
+        stands_whole S.run (λ x. x.found) v c.cut.job c.cut.leg (c.top e).0 (c.top e).1 h };
 
     fn tag(&self) -> CutPiece {
         self.cut
@@ -144,7 +139,7 @@ impl<S: JobSegments> Continuation<SegmentPart<S>> for Join<S> {
         self.parent
     }
 
-    fn on_completion(self, left: SegmentPart<S>, right: SegmentPart<S>) -> Handed<SegmentPart<S>> {
+    fn on_completion(self, left: LegPart<S>, right: LegPart<S>) -> Handed<LegPart<S>> {
         let Merged::Part(left) = left.found else {
             unreachable!()
         };
@@ -152,19 +147,19 @@ impl<S: JobSegments> Continuation<SegmentPart<S>> for Join<S> {
             unreachable!()
         };
         match S::merge(self.cut, left, right) {
-            Ok(part) => Ok(SegmentPart::of_part(part)),
+            Ok(part) => Ok(LegPart::of_part(part)),
             Err(_refused) => Err(Failure::NoMemory),
         }
     }
 
-    fn on_exceptional_completion(self, failure: Failure) -> Handed<SegmentPart<S>> {
+    fn on_exceptional_completion(self, failure: Failure) -> Handed<LegPart<S>> {
         let Failure::Fault(_) = failure else {
             return Err(failure);
         };
         if self.parent.is_some() {
             return Err(failure);
         }
-        Ok(SegmentPart {
+        Ok(LegPart {
             found: Merged::Caught,
             of: PhantomData,
         })
@@ -172,13 +167,13 @@ impl<S: JobSegments> Continuation<SegmentPart<S>> for Join<S> {
 }
 
 /// The counts of a run.
-pub type TableCounts<S> = TreeCounts<SegmentPart<S>, Join<S>>;
+pub type TableCounts<S> = TreeCounts<LegPart<S>, Join<S>>;
 
 /// A seat of them.
-pub type TableSeat<S> = TreeSeat<SegmentPart<S>, Join<S>>;
+pub type TableSeat<S> = TreeSeat<LegPart<S>, Join<S>>;
 
 /// What a pair of them keeps.
-pub type TableKept<S> = Completer<SegmentPart<S>, Join<S>>;
+pub type TableKept<S> = Completer<LegPart<S>, Join<S>>;
 
 /// What is handed in at a place.
-pub type TablePart<S> = Handed<SegmentPart<S>>;
+pub type TablePart<S> = Handed<LegPart<S>>;

@@ -2,8 +2,8 @@
 ghost use Rattle.std.specs.Prelude.{ℕ, IfSome, [], ◌≡◌};
 ghost use Rattle.job_runner.specs.Runs.{AreAnswers, AreAnswers-prop};
 
+use crate::legs::JobLegs;
 use crate::places::{JobPlaces, kept_answer};
-use crate::segments::JobSegments;
 
 /// Answers of jobs, as far as they are there.
 pub trait EarlierAnswers<A> {
@@ -17,13 +17,13 @@ pub trait EarlierAnswers<A> {
 
 /// The answers of earlier jobs that are there: left by tasks in places, or worked out by a reader.
 #[derive(Drop)]
-pub struct Earlier<'a, S: JobSegments> {
+pub struct Earlier<'a, S: JobLegs> {
     places: &'a [JobPlaces<S>],
     answers: &'a [S::Answer],
     ghost are: { AreAnswers S.run.is_answer 0 answers.now } by { AreAnswers-prop S.run 0 answers.now },
 }
 
-impl<'a, S: JobSegments> Earlier<'a, S> {
+impl<'a, S: JobLegs> Earlier<'a, S> {
     /// The answers that these places have.
     pub(crate) fn in_places(places: &'a [JobPlaces<S>]) -> Earlier<'a, S> {
         Earlier {
@@ -43,7 +43,7 @@ impl<'a, S: JobSegments> Earlier<'a, S> {
     }
 }
 
-impl<S: JobSegments> EarlierAnswers<S::Answer> for Earlier<'_, S> {
+impl<S: JobLegs> EarlierAnswers<S::Answer> for Earlier<'_, S> {
     ghost is_answer = { S.run.is_answer };
 
     #[tactic(auto, using(crate::proofs::AnswerLemmas::answer_got))]

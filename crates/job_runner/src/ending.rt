@@ -1,44 +1,44 @@
-//! What happens when a segment is complete: the next one begins, or the job ends and those that wait for it begin.
+//! What happens when a leg is complete: the next one begins, or the job ends and those that wait for it begin.
 ghost use Rattle.std.specs.Prelude.{◌≡◌, ◌<◌, ◌≤◌, ◌+◌, ◌^◌, IfSome, IfOk};
 ghost use Rattle.job_runner.specs.Cuts.{StandsWhole};
 
 use crate::NoMemory;
-use crate::cut::{Merged, SegmentPart, TableKept, TablePart};
+use crate::cut::{LegPart, Merged, TableKept, TablePart};
 use crate::earlier::Earlier;
+use crate::legs::{Begun, JobLegs};
 use crate::places::{
     KeptGiven, hold_source, input_of, keep_answer, keep_given, keep_source, kept_given, put_source,
     size_of,
 };
-use crate::segments::{Begun, JobSegments};
 use crate::task::{
-    FinishedSegment, JobSeat, RunBrand, TableFinishedSegment, TableJobSeat, TableTask, Task,
+    FinishedLeg, JobSeat, RunBrand, TableFinishedLeg, TableJobSeat, TableTask, Task,
 };
 use crate::tools::TableTools;
 use crate::work::{JobWork, TableWork};
 use worker_pool::{Gate, Spawn};
 
-/// The answer of a job, of the part of its whole last segment.
-fn last_answer<S: JobSegments, R: RunBrand>(
+/// The answer of a job, of the part of its whole last leg.
+fn last_answer<S: JobLegs, R: RunBrand>(
     work: &TableWork<S, R>,
     kept: &KeptGiven<S>,
-    segment: usize,
+    leg: usize,
     part: S::Part,
     scratch: &mut S::Scratch,
 ) -> Result<S::Answer, NoMemory>
     requires known { kept.now.job < S.run.jobs }
-    requires last { segment ≡ S.run.last kept.now.job }
-    requires part { S.run.stands_for kept.now.job segment 0 (S.run.size kept.now.job segment) part }
+    requires last { leg ≡ S.run.last kept.now.job }
+    requires part { S.run.stands_for kept.now.job leg 0 (S.run.size kept.now.job leg) part }
     ensures { IfOk result (λ answer. S.run.is_answer kept.now.job answer) }
 {
-    let held = hold_source(&work.places, kept.job, segment);
+    let held = hold_source(&work.places, kept.job, leg);
     let earlier = Earlier::in_places(&work.places);
-    let Some(input) = input_of(kept, held.as_ref(), &earlier, segment) else {
+    let Some(input) = input_of(kept, held.as_ref(), &earlier, leg) else {
         return Err(NoMemory);
     };
     work.jobs.answer(work.alloc, kept.job, part, input, scratch)
 }
 
-impl<'a, S: JobSegments, R: RunBrand> JobWork<'a, S, TablePart<S>, TableKept<S>, R> {
+impl<'a, S: JobLegs, R: RunBrand> JobWork<'a, S, TablePart<S>, TableKept<S>, R> {
     /// Leaves the job's inputs from earlier jobs in its place, or its answer, if there is nothing to walk.
     fn prepare<G: Gate>(&self, gate: &G, job: usize)
         requires { job < R.jobs }
@@ -55,98 +55,98 @@ impl<'a, S: JobSegments, R: RunBrand> JobWork<'a, S, TablePart<S>, TableKept<S>,
         }
     }
 
-    /// Leaves the source of the next segment in its place, and frees that of this one. `Some` is the next segment, with
-    /// its number of positions.
+    /// Leaves the source of the next leg in its place, and frees that of this one. `Some` is the next leg, with its
+    /// number of positions.
     fn leave_source(
         &self,
         job: usize,
-        segment: usize,
+        leg: usize,
         part: S::Part,
         given: &S::Given,
     ) -> Option<(usize, u64)>
-        requires known { (job < S.run.jobs) × (segment < S.run.last job) }
-        requires next { segment + 1 < 2 ^ 64 }
+        requires known { (job < S.run.jobs) × (leg < S.run.last job) }
+        requires next { leg + 1 < 2 ^ 64 }
         requires given { S.run.is_given job given.now }
-        requires part { S.run.stands_for job segment 0 (S.run.size job segment) part }
+        requires part { S.run.stands_for job leg 0 (S.run.size job leg) part }
         ensures { IfSome result (λ next. (next.0 ≤ S.run.last job) × (next.1 ≡ S.run.size job next.0)) }
     {
-        put_source(&self.places, job, segment, None);
-        let Ok(next) = self.jobs.next_source(self.alloc, job, segment, part, given) else {
+        put_source(&self.places, job, leg, None);
+        let Ok(next) = self.jobs.next_source(self.alloc, job, leg, part, given) else {
             return None;
         };
         let size = next.size;
-        keep_source(&self.places, job, segment + 1, next);
-        Some((segment + 1, size))
+        keep_source(&self.places, job, leg + 1, next);
+        Some((leg + 1, size))
     }
 
-    /// Leaves what the part of a whole segment gives in its place, and frees the source of the segment. `Some` is the
-    /// next segment, with its number of positions.
+    /// Leaves what the part of a whole leg gives in its place, and frees the source of the leg. `Some` is the next leg,
+    /// with its number of positions.
     fn leave_part<G: Gate>(
         &self,
         gate: &G,
         job: usize,
-        segment: usize,
+        leg: usize,
         part: S::Part,
         scratch: &mut S::Scratch,
     ) -> Option<(usize, u64)>
-        requires known { (job < S.run.jobs) × (segment ≤ S.run.last job) }
-        requires part { S.run.stands_for job segment 0 (S.run.size job segment) part }
+        requires known { (job < S.run.jobs) × (leg ≤ S.run.last job) }
+        requires part { S.run.stands_for job leg 0 (S.run.size job leg) part }
         ensures { IfSome result (λ next. (next.0 ≤ S.run.last job) × (next.1 ≡ S.run.size job next.0)) }
     {
         let kept = kept_given(&self.places, job)?;
-        if segment < self.jobs.last_segment(job) {
-            return self.leave_source(job, segment, part, &kept.given);
+        if leg < self.jobs.last_leg(job) {
+            return self.leave_source(job, leg, part, &kept.given);
         }
-        if let Ok(answer) = last_answer(self, kept, segment, part, scratch) {
+        if let Ok(answer) = last_answer(self, kept, leg, part, scratch) {
             keep_answer(&self.places, gate, job, answer);
         }
-        put_source(&self.places, job, segment, None);
+        put_source(&self.places, job, leg, None);
         None
     }
 
-    /// Leaves what comes of a whole segment, as `leave_part` does.
+    /// Leaves what comes of a whole leg, as `leave_part` does.
     fn leave<G: Gate>(
         &self,
         gate: &G,
         job: usize,
-        segment: usize,
+        leg: usize,
         part: TablePart<S>,
         scratch: &mut S::Scratch,
     ) -> Option<(usize, u64)>
-        requires known { (job < S.run.jobs) × (segment ≤ S.run.last job) }
-        requires part { StandsWhole S.run (λ x. x.found) job segment part }
+        requires known { (job < S.run.jobs) × (leg ≤ S.run.last job) }
+        requires part { StandsWhole S.run (λ x. x.found) job leg part }
         ensures { IfSome result (λ next. (next.0 ≤ S.run.last job) × (next.1 ≡ S.run.size job next.0)) }
     {
-        let Ok(SegmentPart { found, of: _ }) = part else {
+        let Ok(LegPart { found, of: _ }) = part else {
             return None;
         };
         match found {
-            Merged::Part(part) => self.leave_part(gate, job, segment, part, scratch),
+            Merged::Part(part) => self.leave_part(gate, job, leg, part, scratch),
             Merged::Caught => {
                 let answer = self.jobs.answer_instead(job);
                 keep_answer(&self.places, gate, job, answer);
-                put_source(&self.places, job, segment, None);
+                put_source(&self.places, job, leg, None);
                 None
             }
         }
     }
 
-    /// Ends one segment after the other, while this worker has the last part of one. `Some` if the job is over, `None`
-    /// if others have the rest of a segment.
-    fn end_segments<G: Gate, P: Spawn<TableTask<S, R>>>(
+    /// Ends one leg after the other, while this worker has the last part of one. `Some` if the job is over, `None` if
+    /// others have the rest of a leg.
+    fn end_legs<G: Gate, P: Spawn<TableTask<S, R>>>(
         &self,
-        first: Option<TableFinishedSegment<S, R>>,
+        first: Option<TableFinishedLeg<S, R>>,
         tools: &mut TableTools<'_, S, R, G, P>,
     ) -> Option<TableJobSeat<S, R>>
         requires { IfSome first (λ whole.
-            StandsWhole S.run (λ x. x.found) whole.job.job whole.segment whole.part) }
+            StandsWhole S.run (λ x. x.found) whole.job.job whole.leg whole.part) }
     {
         let mut ended = first;
         for _ in 0..u64::MAX {
-            let Some(FinishedSegment { job, segment, part }) = ended else {
+            let Some(FinishedLeg { job, leg, part }) = ended else {
                 return None;
             };
-            match self.leave(tools.gate, job.job, segment, part, &mut tools.scratch) {
+            match self.leave(tools.gate, job.job, leg, part, &mut tools.scratch) {
                 Some((next, size)) => ended = self.begin(job, next, size, tools),
                 None => return Some(job),
             }
@@ -154,7 +154,7 @@ impl<'a, S: JobSegments, R: RunBrand> JobWork<'a, S, TablePart<S>, TableKept<S>,
         None
     }
 
-    /// Begins a job, and ends its segments as `end_segments` does.
+    /// Begins a job, and ends its legs as `end_legs` does.
     fn run_job<G: Gate, P: Spawn<TableTask<S, R>>>(
         &self,
         begun: TableJobSeat<S, R>,
@@ -165,7 +165,7 @@ impl<'a, S: JobSegments, R: RunBrand> JobWork<'a, S, TablePart<S>, TableKept<S>,
             return Some(begun);
         };
         let first = self.begin(begun, 0, size, tools);
-        self.end_segments(first, tools)
+        self.end_legs(first, tools)
     }
 
     /// Runs a task. `Some` if its job is over then.
@@ -178,13 +178,13 @@ impl<'a, S: JobSegments, R: RunBrand> JobWork<'a, S, TablePart<S>, TableKept<S>,
             Task::Begin(begun) => self.run_job(begun, tools),
             Task::Walk(side) => {
                 let whole = self.walk(side, tools);
-                self.end_segments(whole, tools)
+                self.end_legs(whole, tools)
             }
         }
     }
 }
 
-impl<'a, S: JobSegments, R: RunBrand> JobWork<'a, S, TablePart<S>, TableKept<S>, R> {
+impl<'a, S: JobLegs, R: RunBrand> JobWork<'a, S, TablePart<S>, TableKept<S>, R> {
     /// Arrives for a job that is over at the start nodes of the jobs that wait for it, and settles it. One of the jobs
     /// that may begin now comes back, and the others go to the pool.
     #[cycle(over)]

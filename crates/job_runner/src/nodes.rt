@@ -2,19 +2,19 @@
 ghost use Rattle.std.specs.Prelude.{◌≡◌, ◌+◌, ◌-◌, ◌^◌, ◌<◌, ◌≤◌, false, min, ℕ};
 ghost use Rattle.run_settings.specs.SettingsParts.{is_adaptive, nodes_of, threshold_of};
 
-use crate::segments::JobSegments;
+use crate::legs::JobLegs;
 use run_settings::Settings;
 
-/// How many pieces a segment is cut into for each worker, if its positions, the threshold and the nodes are enough.
-/// While the last pieces are walked some workers have nothing left, so there are many; each costs a node, so there
-/// aren't more.
+/// How many pieces a leg is cut into for each worker, if its positions, the threshold and the nodes are enough. While
+/// the last pieces are walked some workers have nothing left, so there are many; each costs a node, so there aren't
+/// more.
 const PIECES_FOR_WORKER: u64 = 64;
 
 /// How many values of inner streams count as one position against the threshold. A value takes less time than a
 /// position, so this is more than 1.
 const VALUES_FOR_POSITION: u64 = 16;
 
-/// How many pieces for each worker a segment of few items is cut into, if nobody knows how many values these become.
+/// How many pieces for each worker a leg of few items is cut into, if nobody knows how many values these become.
 const PIECES_IF_UNKNOWN: u64 = 8;
 
 /// The most positions of one of that many equal pieces.
@@ -25,9 +25,8 @@ fn share_of(size: u64, pieces: u64) -> u64
     before_last.saturating_add(1)
 }
 
-/// The most positions of a piece that isn't cut, of a segment of this size whose items become this many values:
-/// `longest`, fewer if the settings are adaptive and the values may be many, and not fewer than one of many equal
-/// pieces.
+/// The most positions of a piece that isn't cut, of a leg of this size whose items become this many values: `longest`,
+/// fewer if the settings are adaptive and the values may be many, and not fewer than one of many equal pieces.
 pub(crate) fn longest_piece(settings: Settings, longest: u64, size: u64, values: Option<u64>) -> u64
     requires some { 0 < longest }
     ensures some { 0 < result }
@@ -50,18 +49,18 @@ pub(crate) fn longest_piece(settings: Settings, longest: u64, size: u64, values:
     few.saturating_mul(doubled).min(longest).max(share)
 }
 
-/// How many segments all jobs have together.
-pub(crate) fn segment_count<S: JobSegments>(jobs: &S) -> u64 {
+/// How many legs all jobs have together.
+pub(crate) fn leg_count<S: JobLegs>(jobs: &S) -> u64 {
     let mut count = 0u64;
     for job in 0..jobs.jobs() {
-        let of_job = (jobs.last_segment(job) as u64).saturating_add(1);
+        let of_job = (jobs.last_leg(job) as u64).saturating_add(1);
         count = count.saturating_add(of_job);
     }
     count
 }
 
-/// The most nodes that a segment of this many positions uses, if pieces longer than `longest` are cut. Each cut leaves
-/// half of the positions at most, rounded up.
+/// The most nodes that a leg of this many positions uses, if pieces longer than `longest` are cut. Each cut leaves half
+/// of the positions at most, rounded up.
 fn cuts_within(size: u64, longest: u64) -> u64 {
     let mut length = size;
     let mut cuts = 0u64;
@@ -75,9 +74,9 @@ fn cuts_within(size: u64, longest: u64) -> u64 {
     cuts
 }
 
-/// The most nodes that the segments of a job use, of those from this number on, if no piece is longer than
-/// `longest_piece` says. A segment that is walked in pieces is taken to have `size` positions at least.
-fn cuts_of_job<S: JobSegments>(
+/// The most nodes that the legs of a job use, of those from this number on, if no piece is longer than `longest_piece`
+/// says. A leg that is walked in pieces is taken to have `size` positions at least.
+fn cuts_of_job<S: JobLegs>(
     jobs: &S,
     settings: Settings,
     job: usize,
@@ -89,11 +88,11 @@ fn cuts_of_job<S: JobSegments>(
     requires some { 0 < longest }
 {
     let mut cuts = 0u64;
-    for segment in from..=jobs.last_segment(job) {
-        let likely = jobs.likely_size(job, segment);
+    for leg in from..=jobs.last_leg(job) {
+        let likely = jobs.likely_size(job, leg);
         if likely > 0 {
             let size = likely.max(size);
-            let values = jobs.likely_values(job, segment);
+            let values = jobs.likely_values(job, leg);
             let longest = longest_piece(settings, longest, size, values);
             cuts = cuts.saturating_add(cuts_within(size, longest));
         }
@@ -101,8 +100,8 @@ fn cuts_of_job<S: JobSegments>(
     cuts
 }
 
-/// The most nodes that the segments of all jobs use, of those from this number on in each job.
-fn cuts_of_all<S: JobSegments>(
+/// The most nodes that the legs of all jobs use, of those from this number on in each job.
+fn cuts_of_all<S: JobLegs>(
     jobs: &S,
     settings: Settings,
     from: usize,
@@ -121,7 +120,7 @@ fn cuts_of_all<S: JobSegments>(
 /// The most positions of a piece that isn't cut: the threshold, doubled until there are nodes for all cuts, as long as
 /// something is cut. So no piece is left long because others were cut small before it, and the last of many jobs is cut
 /// as the first one is.
-pub(crate) fn most_positions<S: JobSegments>(jobs: &S, settings: Settings) -> u64
+pub(crate) fn most_positions<S: JobLegs>(jobs: &S, settings: Settings) -> u64
     ensures some { 0 < result }
     ensures threshold { threshold_of settings ≤ result }
 {
@@ -140,9 +139,9 @@ pub(crate) fn most_positions<S: JobSegments>(jobs: &S, settings: Settings) -> u6
 }
 
 /// One start node for each job, and no more nodes for cuts than the settings allow and the jobs can use, if pieces
-/// longer than `longest` are cut; 2^32 - 1 at most. A later segment may have more positions than the first one, as
+/// longer than `longest` are cut; 2^32 - 1 at most. A later leg may have more positions than the first one, as
 /// `flatMap` makes them, and how many isn't known before it begins.
-pub(crate) fn node_count<S: JobSegments>(jobs: &S, settings: Settings, longest: u64) -> u32
+pub(crate) fn node_count<S: JobLegs>(jobs: &S, settings: Settings, longest: u64) -> u32
     requires some { 0 < longest }
     ensures starts { min S.run.jobs (2 ^ 32 - 1) ≤ result }
     ensures few { result ≤ S.run.jobs + nodes_of settings }

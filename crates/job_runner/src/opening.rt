@@ -3,19 +3,20 @@ ghost use Rattle.std.specs.Prelude.{◌≡◌, ◌<◌, ◌≤◌, [], length, I
 ghost use Rattle.pending_count.specs.Seats.{table_of, view_of, IsSeatOf};
 ghost use Rattle.early_stop.specs.Seats.{IsSeatOf as IsStopSeatOf, table_of as stop_table_of, segments_of, count_of};
 ghost use Rattle.job_runner.specs.Tasks.{HasStarts};
-ghost use Rattle.job_runner.specs.Runs.{stop_id_of};
+ghost use Rattle.run_settings.specs.SettingsParts.{workers_of};
 
 use crate::NoMemory;
 use crate::arming::arm_all;
-use crate::cut::{CutPiece, TableCounts, TableKept, TablePart};
-use crate::nodes::{most_positions, node_count, segment_count};
+use crate::cut::{CutPiece, TableCounts, TableKept, TablePart, TableSeat};
+use crate::legs::JobLegs;
+use crate::nodes::{leg_count, most_positions, node_count};
 use crate::run_nodes::RunNodes;
-use crate::segments::JobSegments;
 use crate::start::Start;
-use crate::stopping::{RunSegments, RunStops};
-use crate::task::{Idle, RunBrand, Spare, Task, UnopenedJobs};
+use crate::stopping::{RunLegs, RunStops};
+use crate::task::{Idle, RunBrand, Spare, TableIdle, TableSpare, TableTask, Task, UnopenedJobs};
+use crate::work::JobWork;
 use completion_core::END;
-use early_stop::{Cut as StopWords, CutSeat, Segments};
+use early_stop::CutSeat;
 use pending_count::{Counts, Fits, Seat};
 use run_settings::Settings;
 use std::alloc::Global;
@@ -24,7 +25,7 @@ use std::marker::PhantomData;
 /// The counts of a run that hasn't begun, the start nodes of its jobs, and the seat that has an arrival at each of
 /// them.
 #[derive(Drop)]
-pub struct FreshCounts<S: JobSegments, V, K: Fits<V, Tag = CutPiece>> {
+pub struct FreshCounts<S: JobLegs, V, K: Fits<V, Tag = CutPiece>> {
     pub(crate) counts: Counts<V, K>,
     pub(crate) seat: Seat<V, K>,
     pub(crate) starts: Vec<Start>,
@@ -41,7 +42,7 @@ pub struct FreshCounts<S: JobSegments, V, K: Fits<V, Tag = CutPiece>> {
 
 pub type TableFreshCounts<S> = FreshCounts<S, TablePart<S>, TableKept<S>>;
 
-impl<S: JobSegments> FreshCounts<S, TablePart<S>, TableKept<S>> {
+impl<S: JobLegs> FreshCounts<S, TablePart<S>, TableKept<S>> {
     /// Makes the counts of a run, and no more nodes than its jobs can use. `None` if there can't be a node for each
     /// job.
     pub fn new(
@@ -69,15 +70,15 @@ impl<S: JobSegments> FreshCounts<S, TablePart<S>, TableKept<S>> {
     }
 }
 
-/// The words of early stop of a run, one for each segment.
-fn stop_words<S: JobSegments>(alloc: Global, jobs: &S) -> Result<(RunStops<S>, CutSeat), NoMemory>
+/// The words of early stop of a run, one for each leg.
+fn stop_words<S: JobLegs>(alloc: Global, jobs: &S) -> Result<(RunStops<S>, CutSeat), NoMemory>
     ensures { IfOk result (λ made. IsStopSeatOf made.0 made.1 × (count_of made.0 ≡ (segments_of made.0).count)) }
 {
-    let segments = RunSegments::<S> {
-        count: segment_count(jobs).min(u64::from(u32::MAX)) as u32,
+    let legs = RunLegs::<S> {
+        count: leg_count(jobs).min(u64::from(u32::MAX)) as u32,
         of: PhantomData,
     };
-    RunStops::<S>::new(alloc, &segments)
+    RunStops::<S>::new(alloc, &legs)
 }
 
 impl<V, K: Fits<V, Tag = CutPiece>, R: RunBrand> RunNodes<V, K, R> {
@@ -103,84 +104,80 @@ impl<V, K: Fits<V, Tag = CutPiece>, R: RunBrand> RunNodes<V, K, R> {
     }
 }
 
-/// One `Idle` with one of that many equal parts of the credit, and the seats that it was split off from.
-fn idle_one<V, K: Fits<V, Tag = CutPiece>, R: RunBrand, T, Z: Segments>(
-    nodes: &RunNodes<V, K, R>,
-    stops: &StopWords<Z>,
-    credit: Spare<V, K, R>,
-    stop_seat: CutSeat,
-    parts: u64,
-) -> (Spare<V, K, R>, CutSeat, Idle<V, K, R, T>)
-    requires stops { (stop_id_of stops.now ≡ R.stops) × (stop_table_of stop_seat ≡ R.stops) }
-    requires parts { 0 < parts }
-    ensures { stop_table_of result.1 ≡ R.stops }
-{
-    let (credit, part) = nodes.split_spare(credit, parts);
-    let Spare { seat, of } = part;
-    let (seat, asking) = nodes.counts.split(seat, END, 0, 0);
-    let (stop_seat, stop_part) = stops.split(stop_seat);
-    let idle = Idle {
-        seat: asking,
-        spare: Some(Spare { seat, of }),
-        stop_seat: stop_part,
-        scratch: None,
-        of: PhantomData,
-    };
-    (credit, stop_seat, idle)
-}
-
-/// This many `Idle`s, each with an equal part of the credit.
-fn idle_seats<V, K: Fits<V, Tag = CutPiece>, R: RunBrand, T: Drop, Z: Segments>(
-    alloc: Global,
-    nodes: &RunNodes<V, K, R>,
-    stops: &StopWords<Z>,
-    credit: Spare<V, K, R>,
-    stop_seat: CutSeat,
-    workers: u64,
-) -> Result<Vec<Idle<V, K, R, T>>, NoMemory>
-    requires stops { (stop_id_of stops.now ≡ R.stops) × (stop_table_of stop_seat ≡ R.stops) }
-    ensures { IfOk result (λ idles. length idles.items ≡ workers) }
-{
-    let mut idles = Vec::new(alloc);
-    let mut left = credit;
-    let mut stop_left = stop_seat;
-    for made in 0..workers {
-        let (rest, stop_rest, idle) = idle_one(nodes, stops, left, stop_left, workers - made);
-        left = rest;
-        stop_left = stop_rest;
-        idles.push(idle)?;
+impl<S: JobLegs, R: RunBrand> JobWork<'_, S, TablePart<S>, TableKept<S>, R> {
+    /// What is left of both seats, and an `Idle` with its share of the credit, one of `parts` equal ones.
+    fn idle_one(
+        &self,
+        credit: TableSpare<S, R>,
+        stop_seat: CutSeat,
+        parts: u64,
+    ) -> (TableSpare<S, R>, CutSeat, TableIdle<S, R>)
+        requires stops { stop_table_of stop_seat ≡ R.stops }
+        requires parts { 0 < parts }
+        ensures { stop_table_of result.1 ≡ R.stops }
+    {
+        let (credit, part) = self.nodes.split_spare(credit, parts);
+        let Spare { seat, of } = part;
+        let (seat, asking) = self.nodes.counts.split(seat, END, 0, 0);
+        let (stop_seat, stop_part) = self.stops.split(stop_seat);
+        let idle = Idle {
+            seat: asking,
+            spare: Some(Spare { seat, of }),
+            stop_seat: stop_part,
+            scratch: self.jobs.scratch(self.alloc),
+            of: PhantomData,
+        };
+        (credit, stop_seat, idle)
     }
-    Ok(idles)
-}
 
-/// Tasks for the jobs that name no other one, the last job first, and an `Idle` for each worker. Half of the credit is
-/// for the jobs, and an equal part of the other half for each worker.
-pub(crate) fn open_all<V, K: Fits<V, Tag = CutPiece>, R: RunBrand, T: Drop, Z: Segments>(
-    alloc: Global,
-    nodes: &RunNodes<V, K, R>,
-    stops: &StopWords<Z>,
-    seat: Seat<V, K>,
-    stop_seat: CutSeat,
-    workers: u64,
-) -> Result<(Vec<Task<V, K, R>>, Vec<Idle<V, K, R, T>>), NoMemory>
-    requires table { table_of seat ≡ R.table }
-    requires started { HasStarts 0 nodes.now.starts.items [] (view_of seat) }
-    requires stops { (stop_id_of stops.now ≡ R.stops) × (stop_table_of stop_seat ≡ R.stops) }
-    ensures tasks { IfOk result (λ made. length made.0.items ≤ R.jobs) }
-    ensures idles { IfOk result (λ made. length made.1.items ≡ workers) }
-{
-    let half = seat.credit() / 2;
-    let (seat, other) = nodes.counts.split(seat, END, 0, half);
-    let unopened = UnopenedJobs {
-        seat,
-        jobs: nodes.starts.len(),
-        of: PhantomData,
-    };
-    let spare = Spare {
-        seat: other,
-        of: PhantomData,
-    };
-    let tasks = nodes.open_jobs(alloc, unopened)?;
-    let idles = idle_seats(alloc, nodes, stops, spare, stop_seat, workers)?;
-    Ok((tasks, idles))
+    /// An `Idle` for each worker, each with an equal part of the credit.
+    fn idle_seats(
+        &self,
+        credit: TableSpare<S, R>,
+        stop_seat: CutSeat,
+    ) -> Result<Vec<TableIdle<S, R>>, NoMemory>
+        requires stops { stop_table_of stop_seat ≡ R.stops }
+        ensures { IfOk result (λ idles. length idles.items ≡ workers_of self.now.settings) }
+    {
+        let mut idles = Vec::new(self.alloc);
+        let mut left = credit;
+        let mut stop_left = stop_seat;
+        let workers = self.settings.workers();
+        for made in 0..workers {
+            let (rest, stop_rest, idle) = self.idle_one(left, stop_left, workers - made);
+            left = rest;
+            stop_left = stop_rest;
+            idles.push(idle)?;
+        }
+        Ok(idles)
+    }
+
+    /// Tasks for the jobs that name no other one, the last job first, and an `Idle` for each worker. Half of the credit
+    /// is for the jobs, and an equal part of the other half for each worker.
+    pub(crate) fn open_all(
+        &self,
+        seat: TableSeat<S>,
+        stop_seat: CutSeat,
+    ) -> Result<(Vec<TableTask<S, R>>, Vec<TableIdle<S, R>>), NoMemory>
+        requires table { table_of seat ≡ R.table }
+        requires started { HasStarts 0 self.now.nodes.starts.items [] (view_of seat) }
+        requires stops { stop_table_of stop_seat ≡ R.stops }
+        ensures tasks { IfOk result (λ made. length made.0.items ≤ R.jobs) }
+        ensures idles { IfOk result (λ made. length made.1.items ≡ workers_of self.now.settings) }
+    {
+        let half = seat.credit() / 2;
+        let (seat, other) = self.nodes.counts.split(seat, END, 0, half);
+        let unopened = UnopenedJobs {
+            seat,
+            jobs: self.nodes.starts.len(),
+            of: PhantomData,
+        };
+        let spare = Spare {
+            seat: other,
+            of: PhantomData,
+        };
+        let tasks = self.nodes.open_jobs(self.alloc, unopened)?;
+        let idles = self.idle_seats(spare, stop_seat)?;
+        Ok((tasks, idles))
+    }
 }

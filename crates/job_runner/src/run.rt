@@ -7,9 +7,9 @@ ghost use Rattle.job_runner.specs.Tasks.{kept_at, node_at};
 use crate::NoMemory;
 use crate::alone::answer_alone;
 use crate::earlier::Earlier;
+use crate::legs::JobLegs;
 use crate::opening::TableFreshCounts;
 use crate::places::{JobPlaces, answer_in, empty_places};
-use crate::segments::JobSegments;
 use crate::task::RunBrand;
 use crate::work::TableWork;
 use run_settings::Settings;
@@ -20,7 +20,7 @@ use std::thread::Threads;
 use worker_pool::{Gate, Work, run_pool};
 
 /// The answer that lies in the job's place. If there is none, it is worked out from the answers of the jobs before it.
-fn read_answer<S: JobSegments, G: Gate>(
+fn read_answer<S: JobLegs, G: Gate>(
     alloc: Global,
     gate: &G,
     jobs: &S,
@@ -41,7 +41,7 @@ fn read_answer<S: JobSegments, G: Gate>(
 
 /// The answers of all jobs, in their order.
 #[tactic(auto, using(crate::proofs::AnswerLemmas::more_answers))]
-fn read_answers<S: JobSegments, G: Gate>(
+fn read_answers<S: JobLegs, G: Gate>(
     alloc: Global,
     gate: &G,
     jobs: &S,
@@ -81,7 +81,7 @@ where
 
 /// Runs the jobs over one table of counts, and gives back their places.
 fn run_on<
-    S: JobSegments + Send + Sync,
+    S: JobLegs + Send + Sync,
     R: RunBrand + Send + Sync,
     H: Threads + Wait + Sync,
     G: Gate + Sync,
@@ -119,7 +119,7 @@ where
 /// Each piece that is walked enters the gate first. An answer that no task left is worked out here, in the jobs' order,
 /// which enters the gate once, for all of the job's source. `NoMemory` says that a job couldn't be worked out here
 /// either.
-pub fn run_all<S: JobSegments + Send + Sync, H: Threads + Wait + Sync, G: Gate + Sync>(
+pub fn run_all<S: JobLegs + Send + Sync, H: Threads + Wait + Sync, G: Gate + Sync>(
     rt: &H,
     alloc: Global,
     jobs: &S,

@@ -1,18 +1,18 @@
 //! The words of early stop of a run.
 ghost use Rattle.job_runner.specs.Runs.{pair_at};
 
-use crate::segments::JobSegments;
+use crate::legs::JobLegs;
 use early_stop::Cut as StopWords;
 use std::marker::PhantomData;
 
-/// The segments of all jobs of a run, one after the other.
+/// The legs of all jobs of a run, one after the other.
 #[derive(Drop)]
-pub struct RunSegments<S> {
+pub struct RunLegs<S> {
     pub(crate) count: u32,
     pub(crate) of: PhantomData<S>,
 }
 
-impl<S: JobSegments> early_stop::Segments for RunSegments<S> {
+impl<S: JobLegs> early_stop::Segments for RunLegs<S> {
     type Outcome = S::Outcome;
 
     ghost count = { λ z. z.count };
@@ -26,5 +26,5 @@ impl<S: JobSegments> early_stop::Segments for RunSegments<S> {
     }
 }
 
-/// The words of a run, one for each segment.
-pub type RunStops<S> = StopWords<RunSegments<S>>;
+/// The words of a run, one for each leg.
+pub type RunStops<S> = StopWords<RunLegs<S>>;

@@ -9,7 +9,7 @@ ghost use Rattle.job_runner.specs.Cuts.{IsPiece, begins, ends_at};
 ghost use Rattle.job_runner.specs.Tasks.{nodes_below, HasKept, KnowsStarts, KnowsTop};
 
 use crate::cut::{CutPiece, TableKept, TablePart};
-use crate::segments::JobSegments;
+use crate::legs::JobLegs;
 use completer_tree::Half;
 use early_stop::CutSeat;
 use pending_count::{Fits, Seat};
@@ -68,7 +68,7 @@ pub struct SideTask<V, K: Fits<V, Tag = CutPiece>, R: RunBrand> {
     ghost can: { CanFork R.table half.place half.seat },
     ghost top: { KnowsTop (R.keeps half.place.tag.job) half.place.root (view_of half.seat) },
     ghost knows: { KnowsStarts R.jobs R.start R.keeps (view_of half.seat) },
-    ghost piece: { IsPiece R.jobs R.last R.size half.place.tag.job half.place.tag.segment
+    ghost piece: { IsPiece R.jobs R.last R.size half.place.tag.job half.place.tag.leg
         (begins half.place.tag half.place.side) (ends_at half.place.tag half.place.side) },
 }
 
@@ -90,14 +90,14 @@ pub struct Spare<V, K: Fits<V, Tag = CutPiece>, R: RunBrand> {
     ghost unplaced: { length (view_of seat).places ≡ 0 },
 }
 
-/// A worker's right to ask how many jobs are left, its credit, its seat at the words of early stop, and, once it has
-/// run a task, what it keeps from one leaf to the next.
+/// A worker's right to ask how many jobs are left, its credit, its seat at the words of early stop, and what it keeps
+/// from one leaf to the next.
 #[derive(Drop)]
 pub struct Idle<V, K: Fits<V, Tag = CutPiece>, R: RunBrand, T> {
     pub(crate) seat: Seat<V, K>,
     pub(crate) spare: Option<Spare<V, K, R>>,
     pub(crate) stop_seat: CutSeat,
-    pub(crate) scratch: Option<T>,
+    pub(crate) scratch: T,
     pub(crate) of: PhantomData<R>,
     ghost table: { table_of seat ≡ R.table },
     ghost stops: { stop_table_of stop_seat ≡ R.stops },
@@ -117,21 +117,23 @@ pub struct UnopenedJobs<V, K: Fits<V, Tag = CutPiece>, R: RunBrand> {
     ghost few: { jobs ≤ R.jobs },
 }
 
-/// A segment that was walked whole, with the right to end its job.
+/// A leg that was walked whole, with the right to end its job.
 #[derive(Drop)]
-pub struct FinishedSegment<V, K: Fits<V, Tag = CutPiece>, R: RunBrand> {
+pub struct FinishedLeg<V, K: Fits<V, Tag = CutPiece>, R: RunBrand> {
     pub(crate) job: JobSeat<V, K, R>,
-    pub(crate) segment: usize,
+    pub(crate) leg: usize,
     pub(crate) part: V,
-    ghost known: { segment ≤ R.last job.job },
+    ghost known: { leg ≤ R.last job.job },
 }
 
 pub type TableJobSeat<S, R> = JobSeat<TablePart<S>, TableKept<S>, R>;
+
+pub(crate) type TableSpare<S, R> = Spare<TablePart<S>, TableKept<S>, R>;
 
 pub type TableSideTask<S, R> = SideTask<TablePart<S>, TableKept<S>, R>;
 
 pub type TableTask<S, R> = Task<TablePart<S>, TableKept<S>, R>;
 
-pub type TableIdle<S, R> = Idle<TablePart<S>, TableKept<S>, R, <S as JobSegments>::Scratch>;
+pub type TableIdle<S, R> = Idle<TablePart<S>, TableKept<S>, R, <S as JobLegs>::Scratch>;
 
-pub type TableFinishedSegment<S, R> = FinishedSegment<TablePart<S>, TableKept<S>, R>;
+pub type TableFinishedLeg<S, R> = FinishedLeg<TablePart<S>, TableKept<S>, R>;

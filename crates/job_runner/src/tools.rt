@@ -1,14 +1,14 @@
 //! What a worker uses while it runs a task.
 
 use crate::cut::{CutPiece, TableKept, TablePart};
-use crate::segments::JobSegments;
+use crate::legs::JobLegs;
 use crate::task::{RunBrand, Spare};
 use crate::watch::Watch;
 use pending_count::Fits;
 
 /// The gate that a worker enters and where it puts tasks, what it keeps from one leaf to the next, what it asks the
 /// words of early stop with, and its credit.
-pub(crate) struct Tools<'w, S: JobSegments, V, K: Fits<V, Tag = CutPiece>, R: RunBrand, G, P> {
+pub(crate) struct Tools<'w, S: JobLegs, V, K: Fits<V, Tag = CutPiece>, R: RunBrand, G, P> {
     pub(crate) gate: &'w G,
     pub(crate) spawn: &'w mut P,
     pub(crate) scratch: S::Scratch,

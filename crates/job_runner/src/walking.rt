@@ -4,18 +4,17 @@ ghost use Rattle.trace.specs.declared.item.Fault.{Fault};
 ghost use Rattle.job_runner.specs.Cuts.{HandedIn, IfMerged, IsPieceOf, StandsWhole, begins, ends_at, positions_at};
 
 use crate::NoMemory;
-use crate::cut::{CutPiece, Join, SegmentPart, TableKept, TablePart, is_left, side_at};
+use crate::cut::{CutPiece, Join, LegPart, TableKept, TablePart, is_left, side_at};
+use crate::legs::JobLegs;
 use crate::nodes::longest_piece;
 use crate::parts::part_of;
 use crate::piece::Piece;
 use crate::places::{kept_given, size_of};
-use crate::segments::JobSegments;
 use crate::task::{
-    FinishedSegment, JobSeat, RunBrand, SideTask, TableFinishedSegment, TableJobSeat,
-    TableSideTask, TableTask, Task,
+    FinishedLeg, JobSeat, RunBrand, SideTask, TableFinishedLeg, TableJobSeat, TableSideTask,
+    TableTask, Task,
 };
 use crate::tools::TableTools;
-use crate::watch::Watch;
 use crate::work::{JobWork, TableWork};
 use completer_tree::{Failure, Forked, Half, Tree};
 use std::marker::PhantomData;
@@ -23,16 +22,16 @@ use trace::Fault;
 use worker_pool::{Gate, Spawn};
 
 /// Walks a piece. What is handed in for it: its part, or the fault that ends it, if the job gives an answer in its
-/// place. The watch then asks about its segment.
-fn handed<S: JobSegments, R: RunBrand, G: Gate, P>(
+/// place. The watch then asks about its leg.
+fn handed<S: JobLegs, R: RunBrand, G: Gate, P>(
     work: &TableWork<S, R>,
     piece: Piece,
     tools: &mut TableTools<'_, S, R, G, P>,
 ) -> TablePart<S>
     requires piece { IsPieceOf S.run piece }
-    ensures handed { HandedIn S.run (λ x. x.found) piece.job piece.segment piece.from piece.to result }
+    ensures handed { HandedIn S.run (λ x. x.found) piece.job piece.leg piece.from piece.to result }
     ensures caught { IfOk result (λ x.
-        IfMerged (λ part. (fault : Fault) → S.run.is_caught piece.job piece.segment part fault → ⊥) ⊥ x.found) }
+        IfMerged (λ part. (fault : Fault) → S.run.is_caught piece.job piece.leg part fault → ⊥) ⊥ x.found) }
 {
     let Ok(part) = part_of(work, piece, tools) else {
         return Err(Failure::NoMemory);
@@ -40,24 +39,24 @@ fn handed<S: JobSegments, R: RunBrand, G: Gate, P>(
     let Some(kept) = kept_given(&work.places, piece.job) else {
         return Err(Failure::NoMemory);
     };
-    tools.watch.aim(piece.job, piece.segment);
+    tools.watch.aim(piece.job, piece.leg);
     match work.jobs.fault(piece, &kept.given, &part) {
         Some(fault) => {
             tools.watch.settle(piece, &part);
             Err(Failure::Fault(fault))
         }
-        None => Ok(SegmentPart::of_part(part)),
+        None => Ok(LegPart::of_part(part)),
     }
 }
 
 /// Walks one side of a cut as one piece, and hands its part in.
 #[tactic(auto, using(crate::proofs::SameRun::as_planned))]
-fn leaf<S: JobSegments, R: RunBrand, G: Gate, P>(
+fn leaf<S: JobLegs, R: RunBrand, G: Gate, P>(
     work: &TableWork<S, R>,
     side: TableSideTask<S, R>,
     tools: &mut TableTools<'_, S, R, G, P>,
-) -> Option<TableFinishedSegment<S, R>>
-    ensures { IfSome result (λ whole. StandsWhole S.run (λ x. x.found) whole.job.job whole.segment whole.part) }
+) -> Option<TableFinishedLeg<S, R>>
+    ensures { IfSome result (λ whole. StandsWhole S.run (λ x. x.found) whole.job.job whole.leg whole.part) }
 {
     let Half { seat, place } = side.half;
     let cut = place.tag;
@@ -72,40 +71,29 @@ fn leaf<S: JobSegments, R: RunBrand, G: Gate, P>(
         job: cut.job,
         of: PhantomData,
     };
-    Some(FinishedSegment {
+    Some(FinishedLeg {
         job: begun,
-        segment: cut.segment,
+        leg: cut.leg,
         part,
     })
 }
 
-/// Whether a place at or before the first position of a piece is known to decide what the segment gives.
-fn is_left_out<S: JobSegments, R: RunBrand, G>(
-    watch: &mut Watch<'_, '_, S, R, G>,
-    piece: Piece,
-) -> bool
-    requires known { (piece.job < S.run.jobs) × (piece.segment ≤ S.run.last piece.job) }
-{
-    watch.aim(piece.job, piece.segment);
-    watch.seen() <= piece.from
-}
-
-/// The most positions of a piece of a segment that isn't cut. A segment that turns out longer than it was counted with
-/// isn't cut into more pieces than others, so that no worker spends all nodes on its beginning.
-fn longest_of<S: JobSegments, R: RunBrand>(
+/// The most positions of a piece of a leg that isn't cut. A leg that turns out longer than it was counted with isn't
+/// cut into more pieces than others, so that no worker spends all nodes on its beginning.
+fn longest_of<S: JobLegs, R: RunBrand>(
     work: &TableWork<S, R>,
     job: usize,
-    segment: usize,
+    leg: usize,
     size: u64,
 ) -> u64
-    requires known { (job < S.run.jobs) × (segment ≤ S.run.last job) }
+    requires known { (job < S.run.jobs) × (leg ≤ S.run.last job) }
     ensures { 0 < result }
 {
-    let values = work.jobs.likely_values(job, segment);
+    let values = work.jobs.likely_values(job, leg);
     longest_piece(work.settings, work.threshold, size, values)
 }
 
-impl<'a, S: JobSegments, R: RunBrand> JobWork<'a, S, TablePart<S>, TableKept<S>, R> {
+impl<'a, S: JobLegs, R: RunBrand> JobWork<'a, S, TablePart<S>, TableKept<S>, R> {
     /// Cuts one side of a cut in two, if a node can be claimed. If not, the side comes back.
     #[tactic(auto, using(crate::proofs::SameRun::as_planned))]
     fn cut_side(
@@ -148,20 +136,20 @@ impl<'a, S: JobSegments, R: RunBrand> JobWork<'a, S, TablePart<S>, TableKept<S>,
     }
 
     /// Walks one side of a cut. While it has more positions than `longest_of` says and a node can be claimed, it is cut
-    /// in two, and the right side goes to the pool. `Some` is the whole segment, if this was its last part.
+    /// in two, and the right side goes to the pool. `Some` is the whole leg, if this was its last part.
     #[cycle(walk)]
     #[tactic(auto, using(crate::proofs::SameRun::as_planned))]
     pub(crate) fn walk<G: Gate, P: Spawn<TableTask<S, R>>>(
         &self,
         side: TableSideTask<S, R>,
         tools: &mut TableTools<'_, S, R, G, P>,
-    ) -> Option<TableFinishedSegment<S, R>>
-        ensures { IfSome result (λ whole. StandsWhole S.run (λ x. x.found) whole.job.job whole.segment whole.part) }
+    ) -> Option<TableFinishedLeg<S, R>>
+        ensures { IfSome result (λ whole. StandsWhole S.run (λ x. x.found) whole.job.job whole.leg whole.part) }
     {
         let piece = side_at(&side.half.place);
-        let size = size_of(&self.places, piece.job, piece.segment).unwrap_or(u64::MAX);
-        let longest = longest_of(self, piece.job, piece.segment, size);
-        if piece.to - piece.from <= longest || is_left_out(&mut tools.watch, piece) {
+        let size = size_of(&self.places, piece.job, piece.leg).unwrap_or(u64::MAX);
+        let longest = longest_of(self, piece.job, piece.leg, size);
+        if piece.to - piece.from <= longest || tools.watch.leaves_out(piece) {
             return leaf(self, side, tools);
         }
         match self.cut_side(side) {
@@ -177,8 +165,8 @@ impl<'a, S: JobSegments, R: RunBrand> JobWork<'a, S, TablePart<S>, TableKept<S>,
         own: TableSideTask<S, R>,
         other: TableSideTask<S, R>,
         tools: &mut TableTools<'_, S, R, G, P>,
-    ) -> Option<TableFinishedSegment<S, R>>
-        ensures { IfSome result (λ whole. StandsWhole S.run (λ x. x.found) whole.job.job whole.segment whole.part) }
+    ) -> Option<TableFinishedLeg<S, R>>
+        ensures { IfSome result (λ whole. StandsWhole S.run (λ x. x.found) whole.job.job whole.leg whole.part) }
     {
         let pushed = tools.spawn.push(Task::Walk(other));
         let first = self.walk(own, tools);
@@ -189,44 +177,44 @@ impl<'a, S: JobSegments, R: RunBrand> JobWork<'a, S, TablePart<S>, TableKept<S>,
     }
 }
 
-/// Walks a segment as one piece.
+/// Walks a leg as one piece.
 #[tactic(auto, using(crate::proofs::SameRun::as_planned))]
-fn walk_whole<S: JobSegments, R: RunBrand, G: Gate, P>(
+fn walk_whole<S: JobLegs, R: RunBrand, G: Gate, P>(
     work: &TableWork<S, R>,
     job: TableJobSeat<S, R>,
-    segment: usize,
+    leg: usize,
     size: u64,
     tools: &mut TableTools<'_, S, R, G, P>,
-) -> TableFinishedSegment<S, R>
-    requires known { segment ≤ R.last job.job }
-    requires size { size ≡ R.size job.job segment }
-    ensures { StandsWhole S.run (λ x. x.found) result.job.job result.segment result.part }
+) -> TableFinishedLeg<S, R>
+    requires known { leg ≤ R.last job.job }
+    requires size { size ≡ R.size job.job leg }
+    ensures { StandsWhole S.run (λ x. x.found) result.job.job result.leg result.part }
 {
-    let all = Piece::all(job.job, segment, size);
+    let all = Piece::all(job.job, leg, size);
     let part = match part_of(work, all, tools) {
-        Ok(part) => Ok(SegmentPart::of_part(part)),
+        Ok(part) => Ok(LegPart::of_part(part)),
         Err(_refused) => Err(Failure::NoMemory),
     };
-    FinishedSegment { job, segment, part }
+    FinishedLeg { job, leg, part }
 }
 
-impl<'a, S: JobSegments, R: RunBrand> JobWork<'a, S, TablePart<S>, TableKept<S>, R> {
-    /// Cuts a segment in two, at the top of its tree, if a node can be claimed. If not, the right to end the job comes
+impl<'a, S: JobLegs, R: RunBrand> JobWork<'a, S, TablePart<S>, TableKept<S>, R> {
+    /// Cuts a leg in two, at the top of its tree, if a node can be claimed. If not, the right to end the job comes
     /// back.
     #[tactic(auto, using(crate::proofs::SeatLemmas::can_keep, crate::proofs::SameRun::as_planned))]
-    fn cut_segment(
+    fn cut_leg(
         &self,
         begun: TableJobSeat<S, R>,
-        segment: usize,
+        leg: usize,
         size: u64,
     ) -> Result<(TableSideTask<S, R>, TableSideTask<S, R>), TableJobSeat<S, R>>
-        requires known { segment ≤ R.last begun.job }
-        requires size { size ≡ R.size begun.job segment }
+        requires known { leg ≤ R.last begun.job }
+        requires size { size ≡ R.size begun.job leg }
         requires long { 1 < size }
         ensures same { IfErr result (λ back. back.job ≡ begun.job) }
     {
         let JobSeat { seat, job, of } = begun;
-        let all = Piece::all(job, segment, size);
+        let all = Piece::all(job, leg, size);
         let run = Join {
             cut: CutPiece::halves(all),
             parent: None,
@@ -252,26 +240,26 @@ impl<'a, S: JobSegments, R: RunBrand> JobWork<'a, S, TablePart<S>, TableKept<S>,
         }
     }
 
-    /// Begins the tree of a segment, for which this worker pays. `Some` is the whole segment, if no part of it is left
-    /// to others.
+    /// Begins the tree of a leg, for which this worker pays. `Some` is the whole leg, if no part of it is left to
+    /// others.
     pub(crate) fn begin<G: Gate, P: Spawn<TableTask<S, R>>>(
         &self,
         begun: TableJobSeat<S, R>,
-        segment: usize,
+        leg: usize,
         size: u64,
         tools: &mut TableTools<'_, S, R, G, P>,
-    ) -> Option<TableFinishedSegment<S, R>>
-        requires known { segment ≤ R.last begun.job }
-        requires size { size ≡ R.size begun.job segment }
-        ensures { IfSome result (λ whole. StandsWhole S.run (λ x. x.found) whole.job.job whole.segment whole.part) }
+    ) -> Option<TableFinishedLeg<S, R>>
+        requires known { leg ≤ R.last begun.job }
+        requires size { size ≡ R.size begun.job leg }
+        ensures { IfSome result (λ whole. StandsWhole S.run (λ x. x.found) whole.job.job whole.leg whole.part) }
     {
-        if size <= longest_of(self, begun.job, segment, size) {
-            return Some(walk_whole(self, begun, segment, size, tools));
+        if size <= longest_of(self, begun.job, leg, size) {
+            return Some(walk_whole(self, begun, leg, size, tools));
         }
         let paid = self.nodes.pay(self.share, begun, &mut tools.spare);
-        match self.cut_segment(paid, segment, size) {
+        match self.cut_leg(paid, leg, size) {
             Ok((own, other)) => self.walk_both(own, other, tools),
-            Err(begun) => Some(walk_whole(self, begun, segment, size, tools)),
+            Err(begun) => Some(walk_whole(self, begun, leg, size, tools)),
         }
     }
 }

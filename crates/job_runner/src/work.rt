@@ -9,11 +9,11 @@ ghost use Rattle.job_runner.specs.Tasks.{kept_at, node_at};
 
 use crate::NoMemory;
 use crate::cut::{CutPiece, TableKept, TablePart};
-use crate::nodes::segment_count;
-use crate::opening::{FreshCounts, TableFreshCounts, open_all};
+use crate::legs::JobLegs;
+use crate::nodes::leg_count;
+use crate::opening::{FreshCounts, TableFreshCounts};
 use crate::places::{JobPlaces, empty_places, kept_answer};
 use crate::run_nodes::RunNodes;
-use crate::segments::JobSegments;
 use crate::stopping::RunStops;
 use crate::task::{Idle, RunBrand, TableIdle, TableTask};
 use crate::tools::Tools;
@@ -28,7 +28,7 @@ use worker_pool::{Gate, Spawn, Work};
 
 /// All jobs of a run, over one table of counts.
 #[derive(Drop)]
-pub struct JobWork<'a, S: JobSegments, V, K: Fits<V, Tag = CutPiece>, R: RunBrand> {
+pub struct JobWork<'a, S: JobLegs, V, K: Fits<V, Tag = CutPiece>, R: RunBrand> {
     pub(crate) alloc: Global,
     pub(crate) nodes: RunNodes<V, K, R>,
     pub(crate) jobs: &'a S,
@@ -47,7 +47,7 @@ pub struct JobWork<'a, S: JobSegments, V, K: Fits<V, Tag = CutPiece>, R: RunBran
 
 pub type TableWork<'a, S, R> = JobWork<'a, S, TablePart<S>, TableKept<S>, R>;
 
-impl<'a, S: JobSegments, R: RunBrand> JobWork<'a, S, TablePart<S>, TableKept<S>, R> {
+impl<'a, S: JobLegs, R: RunBrand> JobWork<'a, S, TablePart<S>, TableKept<S>, R> {
     /// The work of a run, with what a pool takes for it: a task for each job that names no other one, and an `Idle` for
     /// each worker.
     pub fn new(
@@ -82,8 +82,7 @@ impl<'a, S: JobSegments, R: RunBrand> JobWork<'a, S, TablePart<S>, TableKept<S>,
             stop_seat,
             longest,
         } = opened;
-        let workers = settings.workers();
-        let share = seat.credit() / 2 / workers / segment_count(jobs).max(1);
+        let share = seat.credit() / 2 / settings.workers() / leg_count(jobs).max(1);
         let work = TableWork::<S, R> {
             alloc,
             nodes: RunNodes {
@@ -98,11 +97,11 @@ impl<'a, S: JobSegments, R: RunBrand> JobWork<'a, S, TablePart<S>, TableKept<S>,
             places,
             stops,
         };
-        let (tasks, idles) = open_all(alloc, &work.nodes, &work.stops, seat, stop_seat, workers)?;
+        let (tasks, idles) = work.open_all(seat, stop_seat)?;
         Ok((work, tasks, idles))
     }
 
-    /// What a worker asks the words of early stop with, about no segment yet.
+    /// What a worker asks the words of early stop with, about no leg yet.
     fn watch<'w, 'g, G>(&'w self, gate: &'g G, seat: CutSeat) -> Watch<'w, 'g, S, R, G>
         requires seat { stop_table_of seat ≡ R.stops }
     {
@@ -113,13 +112,13 @@ impl<'a, S: JobSegments, R: RunBrand> JobWork<'a, S, TablePart<S>, TableKept<S>,
             stops: &self.stops,
             seat,
             job: 0,
-            segment: 0,
+            leg: 0,
             word: u32::MAX,
             of: PhantomData,
         }
     }
 
-    /// The answer of a job, if a task left it.
+    /// The answer of a job, if a task left it; for other programs.
     pub fn found(&self, job: usize) -> Option<&S::Answer>
         ensures { IfSome result (λ answer. S.run.is_answer job answer.now) }
     {
@@ -127,7 +126,7 @@ impl<'a, S: JobSegments, R: RunBrand> JobWork<'a, S, TablePart<S>, TableKept<S>,
     }
 }
 
-impl<'a, S: JobSegments + Send + Sync, R: RunBrand + Send + Sync> Work
+impl<'a, S: JobLegs + Send + Sync, R: RunBrand + Send + Sync> Work
     for JobWork<'a, S, TablePart<S>, TableKept<S>, R>
 where
     S::Part: Send,
@@ -172,10 +171,6 @@ where
             scratch,
             of,
         } = idle;
-        let scratch = match scratch {
-            Some(kept) => kept,
-            None => self.jobs.scratch(self.alloc),
-        };
         let mut tools = Tools {
             gate,
             spawn,
@@ -199,7 +194,7 @@ where
             seat,
             spare,
             stop_seat,
-            scratch: Some(scratch),
+            scratch,
             of,
         }
     }

@@ -1,4 +1,4 @@
--- A piece that ends in a fault: what the whole segment gives, and what the job answers.
+-- A piece that ends in a fault: what the whole leg gives, and what the job answers.
 use Rattle.std.proofs.Common.{◌≡◌, ◌≢◌, ℕ, ◌+◌, ◌-◌, ◌≤◌, ◌==◌, Bool, true, false, List, length, drop, Option, Some, None, IfSome, if◌then◌else◌, ap, sym, subst, refl, ◌∙◌, arith}
 use Rattle.std.proofs.lemmas.List.{length-drop, length-take}
 use Rattle.lambda_values.specs.Earlier.{Numbers}
@@ -26,7 +26,7 @@ use Rattle.prefix_walks.specs.Batches.{counted_as}
 use Rattle.job_meaning.specs.Walks.{instead_of_fault, unless_fault}
 use Rattle.prefix_walks.proofs.ScanLemmas.{pieces_joined, whole_piece}
 use Rattle.job_runner.specs.Cuts.{HasFault}
-use Rattle.job_table.specs.PlanSegments.{AbstractChain, IsCaught, PartStands, answer_of, chain_at, named_at, run_of, gives_at, piece_between, plan_at, size_at, last_leg, walk_at}
+use Rattle.job_table.specs.PlanLegs.{AbstractChain, IsCaught, PartStands, answer_of, chain_at, named_at, run_of, gives_at, piece_between, plan_at, size_at, last_leg, walk_at}
 use Rattle.job_table.proofs.PlanParts.{answer_there, size_within}
 use Rattle.job_table.proofs.PlannedAnswers.{legs_there, walked_answer}
 
@@ -52,7 +52,7 @@ fold_gives (finding d) n env p t u f g s h = absurd s
 fold_gives collecting n env p t u f g s h = absurd s
 fold_gives exactly n env p t u f g s h = absurd s
 fold_gives (scanning op r) n env p t u f g s h = absurd s
-fold_gives (sorting m) n env p t u f g s h = absurd s
+fold_gives (sorting m places) n env p t u f g s h = absurd s
 fold_gives (keeping_firsts m) n env p t u f g s h = absurd s
 
 fold_walk : (e : AbstractEnd) (n : ℕ) (env : Numbers) (p : FoldPart) (t : Trace) (f : Fault) → EndsFor e n env (part.Fold p) t → p.partial.end ≡ end.Fault f → t.ending ≡ end.Fault f
@@ -61,7 +61,7 @@ fold_walk (finding d) n env p t f s h = absurd s
 fold_walk collecting n env p t f s h = absurd s
 fold_walk exactly n env p t f s h = absurd s
 fold_walk (scanning op r) n env p t f s h = absurd s
-fold_walk (sorting m) n env p t f s h = absurd s
+fold_walk (sorting m places) n env p t f s h = absurd s
 fold_walk (keeping_firsts m) n env p t f s h = absurd s
 
 -- ---- a walk with a fault in its middle
@@ -103,28 +103,28 @@ whole_of decides w size from to t h low enough =
     (enough_joined decides 0 left left (piece_of from None w) (append t rest) (enough_walked decides 0 left)
     (subst (λ (n : ℕ). IsEnough decides n (piece_of from None w) (append t rest)) (sym (left_long w from low)) right))
 
--- so the segment gives a fault
-pub segment_faults : (chain : AbstractChain) (segment from to : ℕ) (p : FoldPart) (f : Fault) → from ≤ to → to ≤ size_at chain segment → PartStands chain segment from to (part.Fold p) → p.partial.end ≡ end.Fault f
-    → (g : Fault) × (gives_at chain segment (walk_at chain segment) ≡ outcome.Answer (answer.Fault g))
-segment_faults chain segment from to p f h within (t, enough, is) faulted =
-    let s = (leg_at segment chain.legs).last in
-    let w = walk_at chain segment in
-    let rest = right_of (size_at chain segment) to w in
+-- so the leg gives a fault
+pub leg_faults : (chain : AbstractChain) (leg from to : ℕ) (p : FoldPart) (f : Fault) → from ≤ to → to ≤ size_at chain leg → PartStands chain leg from to (part.Fold p) → p.partial.end ≡ end.Fault f
+    → (g : Fault) × (gives_at chain leg (walk_at chain leg) ≡ outcome.Answer (answer.Fault g))
+leg_faults chain leg from to p f h within (t, enough, is) faulted =
+    let s = (leg_at leg chain.legs).last in
+    let w = walk_at chain leg in
+    let rest = right_of (size_at chain leg) to w in
     let left = piece_of 0 (Some from) w in
-    let fits = size_within chain segment in
-    let all = whole_of (Decides (gives_at chain segment) w) w (size_at chain segment) from to t h (omega arith) enough in
+    let fits = size_within chain leg in
+    let all = whole_of (Decides (gives_at chain leg) w) w (size_at chain leg) from to t h (omega arith) enough in
     let inside = faulted_inside s chain.numbers left t rest f (fold_walk s.ending (last_stage s) chain.numbers p (walk_of s chain.numbers t) f is faulted) in (
       inside.0,
-      sym (enough_gives (gives_at chain segment) w (append left (append t rest)) all)
+      sym (enough_gives (gives_at chain leg) w (append left (append t rest)) all)
           ∙ fold_gives s.ending (last_stage s) chain.numbers p (walk_of s chain.numbers t) (walk_of s chain.numbers (append left (append t rest))) f inside.0 is inside.1,
     )
 
 -- and the job answers what it gives in its place
-pub caught_answer : (plans : List AbstractPlan) (job segment : ℕ) (f : Fault) (a : Answer) → (plan_at plans job).fallback ≡ Some a → HasFault (run_of plans) job segment f → a ≡ answer_of plans job
-caught_answer plans job segment f a gives h =
+pub caught_answer : (plans : List AbstractPlan) (job leg : ℕ) (f : Fault) (a : Answer) → (plan_at plans job).fallback ≡ Some a → HasFault (run_of plans) job leg f → a ≡ answer_of plans job
+caught_answer plans job leg f a gives h =
     let chain = chain_at plans job in
     let fold = fold_of h.part f h.caught.fault in
-    let faults = segment_faults chain segment h.from h.to fold.0 f h.piece.ordered h.piece.within (subst (PartStands chain segment h.from h.to) fold.1 h.stands) fold.2 in
+    let faults = leg_faults chain leg h.from h.to fold.0 f h.piece.ordered h.piece.within (subst (PartStands chain leg h.from h.to) fold.1 h.stands) fold.2 in
     let answers : legs_answer chain.legs chain.numbers chain.source ≡ answer.Fault faults.0 =
     answer_there chain.numbers chain.legs chain.source
     ∙ ap (λ (k : ℕ). given_answer (gives_at chain k (walk_at chain k))) (sym h.caught.last)
@@ -133,18 +133,18 @@ caught_answer plans job segment f a gives h =
     ∙ ap (λ (o : Option Answer). instead_of_fault o (legs_answer chain.legs chain.numbers chain.source)) (sym gives)
     ∙ walked_answer plans job h.piece.known h.caught.usable
 
-pub nothing_caught : (plans : List AbstractPlan) (job segment : ℕ) (f : Fault) → (plan_at plans job).fallback ≡ None → HasFault (run_of plans) job segment f → ⊥
-nothing_caught plans job segment f none h = let z : None ≡ Some h.caught.instead = sym none ∙ h.caught.gives in cc
+pub nothing_caught : (plans : List AbstractPlan) (job leg : ℕ) (f : Fault) → (plan_at plans job).fallback ≡ None → HasFault (run_of plans) job leg f → ⊥
+nothing_caught plans job leg f none h = let z : None ≡ Some h.caught.instead = sym none ∙ h.caught.gives in cc
 
 pub some_of : {A : Type 0} (o : Option A) → (o ≡ None → ⊥) → (a : A) × (o ≡ Some a)
 some_of None h = absurd (h refl)
 some_of (Some a) h = (a, refl)
 
 -- the fault of a part of a job that catches it
-pub caught_there : (plans : List AbstractPlan) (job segment : ℕ) (p : AbstractPlan) (q : Part) (r : Option Fault) → first_unusable (named_at plans job) ≡ None → p ≡ plan_at plans job
-    → p.fallback ≢ None → segment ≡ last_leg p.legs → r ≡ fold_fault q → IfSome r (λ f. IsCaught plans job segment q f)
-caught_there plans job segment p q None usable same caught last h = tt
-caught_there plans job segment p q (Some f) usable same caught last h =
+pub caught_there : (plans : List AbstractPlan) (job leg : ℕ) (p : AbstractPlan) (q : Part) (r : Option Fault) → first_unusable (named_at plans job) ≡ None → p ≡ plan_at plans job
+    → p.fallback ≢ None → leg ≡ last_leg p.legs → r ≡ fold_fault q → IfSome r (λ f. IsCaught plans job leg q f)
+caught_there plans job leg p q None usable same caught last h = tt
+caught_there plans job leg p q (Some f) usable same caught last h =
     let b = some_of p.fallback caught in
     record {
       usable = usable;
@@ -155,9 +155,9 @@ caught_there plans job segment p q (Some f) usable same caught last h =
     }
 
 -- a job with a fault that it catches gives an answer in its place, and so on
-pub catches_it : (plans : List AbstractPlan) (job segment : ℕ) (q : Part) (f : Fault) (p : AbstractPlan) → p ≡ plan_at plans job → IsCaught plans job segment q f
-    → (p.fallback ≢ None) × (segment ≡ last_leg p.legs)
-catches_it plans job segment q f p same h = (
+pub catches_it : (plans : List AbstractPlan) (job leg : ℕ) (q : Part) (f : Fault) (p : AbstractPlan) → p ≡ plan_at plans job → IsCaught plans job leg q f
+    → (p.fallback ≢ None) × (leg ≡ last_leg p.legs)
+catches_it plans job leg q f p same h = (
   λ e. (let z : None ≡ Some h.instead = sym e ∙ ap (λ (x : AbstractPlan). x.fallback) same ∙ h.gives in cc),
   h.last ∙ ap last_leg (legs_there plans job p same),
 )

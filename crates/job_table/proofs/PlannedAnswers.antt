@@ -9,7 +9,7 @@ use Rattle.job_meaning.specs.FileAnswers.{EarlierJob, all_put_in, first_unusable
 use Rattle.job_plan.specs.Plans.{AbstractPlan, jobs_at, planned_after, planned_from, planned_meaning, plans_in}
 use Rattle.job_routes.specs.Legs.{legs_answer}
 use Rattle.job_runner.specs.Runs.{AreAnswers}
-use Rattle.job_table.specs.PlanSegments.{answer_of, answers_before, chain_at, named_at, plan_at, AbstractChain, PartStands, given_at, last_leg, size_at}
+use Rattle.job_table.specs.PlanLegs.{answer_of, answers_before, chain_at, named_at, plan_at, AbstractChain, PartStands, given_at, last_leg, size_at}
 use Rattle.lambda_values.specs.Earlier.{Numbers}
 use Rattle.job_language.specs.declared.job.PlainSource.{PlainSource}
 use Rattle.job_language.specs.Jobs.{AbstractPlainSource, source_of, sources_of}
@@ -88,8 +88,8 @@ planned_jobs items js ks same (Err e) l h = tt
 
 module _ (plans : List AbstractPlan) (job : ℕ) (p : AbstractPlan) (same : p ≡ plan_at plans job) where
   -- the sources of a job with the arrays put in
-  pub put_walk : (segment : ℕ) (sources : List AbstractPlainSource) → segment ≡ 0 → sources ≡ all_put_in (jobs_at (answers_before plans job) p.named) p.sources → source_walk sources ≡ given_at (chain_at plans job) segment
-  put_walk segment sources first put =
+  pub put_walk : (leg : ℕ) (sources : List AbstractPlainSource) → leg ≡ 0 → sources ≡ all_put_in (jobs_at (answers_before plans job) p.named) p.sources → source_walk sources ≡ given_at (chain_at plans job) leg
+  put_walk leg sources first put =
       ap source_walk put
       ∙ ap (λ (q : AbstractPlan). source_walk (all_put_in (jobs_at (answers_before plans job) q.named) q.sources)) same
       ∙ ap (given_at (chain_at plans job)) (sym first)

@@ -1,2 +1,2 @@
--- Condition: the files of this crate's definitions; the first line of each says what it is. Begin with PlanSegments.
-pub mod PlanSegments
+-- Condition: the files of this crate's definitions; the first line of each says what it is. Begin with PlanLegs.
+pub mod PlanLegs

@@ -9,7 +9,7 @@ ghost use Rattle.lambda_values.specs.Earlier.{table_in};
 ghost use Rattle.job_meaning.specs.Walks.{array_of, number_of};
 ghost use Rattle.job_plan.specs.Plans.{job_at, jobs_at, plan_in, plans_in};
 ghost use Rattle.job_meaning.specs.declared.answer.Answer.{Answer as answers};
-ghost use Rattle.job_table.specs.PlanSegments.{answer_of, answers_before, chain_at, plan_at, size_at};
+ghost use Rattle.job_table.specs.PlanLegs.{answer_of, answers_before, chain_at, plan_at, size_at};
 
 use crate::plan_parts::positions;
 use crate::planned::{PlanBrand, PlanJobs};
@@ -234,8 +234,7 @@ impl<'a, 'c, P: PlanBrand> PlanJobs<'a, 'c, P> {
         Ok(sources)
     }
 
-    /// How many positions the first segment of a job has: none if its walk goes through slices, which makes it one
-    /// piece.
+    /// How many positions the first leg of a job has: none if its walk goes through slices, which makes it one piece.
     pub(crate) fn first_size<E: EarlierAnswers<Answer>>(
         &self,
         alloc: Global,

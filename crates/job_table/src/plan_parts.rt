@@ -7,8 +7,8 @@ ghost use Rattle.job_plan.specs.Parts.{may_search, walk_in};
 ghost use Rattle.job_plan.specs.Plans.{plan_in};
 ghost use Rattle.prefix_walks.specs.Pieces.{IsNotAfter};
 ghost use Rattle.job_meaning.specs.Walks.{instead_of_fault};
-ghost use Rattle.job_table.specs.PlanSegments.{AbstractChain, PartStands, given_at, gives_at, last_leg};
-ghost use Rattle.job_table.specs.PlanSegments.{positions_of, size_at, upto, walk_at, walk_size};
+ghost use Rattle.job_table.specs.PlanLegs.{AbstractChain, PartStands, given_at, gives_at, last_leg};
+ghost use Rattle.job_table.specs.PlanLegs.{positions_of, size_at, upto, walk_at, walk_size};
 
 use batch_eval::Registers;
 use early_stop::Stop;
@@ -29,6 +29,15 @@ pub(crate) fn positions(leg: &Leg, given: Source) -> u64
         0
     } else {
         given.of_leg(leg).size()
+    }
+}
+
+/// How many positions a leg of a job has for a run, as far as that is known before it.
+pub fn likely_size(plan: &JobPlan, leg: usize) -> u64 {
+    if plan.leg(leg).streams() {
+        0
+    } else {
+        plan.likely_size
     }
 }
 
@@ -59,13 +68,13 @@ pub(crate) fn walked_piece<'a, W: Stop>(
     requires ordered { piece.from ≤ piece.to }
     ensures stands { (chain : AbstractChain) → chain.legs ≡ (plan_in plan.now).legs
         → chain.numbers ≡ walked.entry.env.now
-        → walk_in walked.entry.source ≡ given_at chain piece.segment → piece.to ≤ size_at chain piece.segment
-        → (in_order ≡ true → (piece.from ≡ 0) × (piece.to ≡ size_at chain piece.segment))
-        → ((c : ℕ) → W.decides stop.old c → Decides (gives_at chain piece.segment) (walk_at chain piece.segment) c)
-        → IfOk result (λ part. PartStands chain piece.segment piece.from piece.to part) }
+        → walk_in walked.entry.source ≡ given_at chain piece.leg → piece.to ≤ size_at chain piece.leg
+        → (in_order ≡ true → (piece.from ≡ 0) × (piece.to ≡ size_at chain piece.leg))
+        → ((c : ℕ) → W.decides stop.old c → Decides (gives_at chain piece.leg) (walk_at chain piece.leg) c)
+        → IfOk result (λ part. PartStands chain piece.leg piece.from piece.to part) }
     ensures kind { in_order ≡ true → IfOk result (λ part. may_search part ≡ false) }
 {
-    let leg = plan.leg(piece.segment);
+    let leg = plan.leg(piece.leg);
     let source = walked.source.of_leg(leg);
     let env = walked.env;
     let walked = Walked { source, env };

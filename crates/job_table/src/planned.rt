@@ -2,7 +2,7 @@
 ghost use Rattle.std.specs.Prelude.{◌≡◌, ◌<◌, List, [], codes, length, IfOk, Some};
 ghost use Rattle.job_plan.specs.declared.plan.JobPlan.{JobPlan as job_plan};
 ghost use Rattle.job_plan.specs.Plans.{plan_in, planned_meaning, plans_in};
-ghost use Rattle.job_table.specs.PlanSegments.{one_plan, plan_at};
+ghost use Rattle.job_table.specs.PlanLegs.{one_plan, plan_at};
 
 use job_meaning::Answer;
 use job_plan::{JobPlan, Plan};

@@ -5,7 +5,7 @@ ghost use Rattle.job_plan.specs.Parts.{may_search};
 ghost use Rattle.job_plan.specs.Plans.{plans_in};
 ghost use Rattle.job_runner.specs.Cuts.{IsPieceOf, Stands};
 ghost use Rattle.job_runner.specs.Runs.{DecidesIn};
-ghost use Rattle.job_table.specs.PlanSegments.{IsTaken, answer_of, chain_at, given_at, run_of, size_at};
+ghost use Rattle.job_table.specs.PlanLegs.{IsTaken, answer_of, chain_at, given_at, run_of, size_at};
 
 use crate::plan_parts::walked_piece;
 use crate::planned::{PlanBrand, PlanJobs};
@@ -13,7 +13,7 @@ use batch_eval::Registers;
 use early_stop::Stop;
 use job_meaning::Answer;
 use job_plan::{Part, Source, Walked};
-use job_runner::{EarlierAnswers, NoMemory, Piece, SegmentInput};
+use job_runner::{EarlierAnswers, LegInput, NoMemory, Piece};
 use lambda_values::Env;
 use prefix_walks::GivenWalk;
 use std::alloc::Global;
@@ -26,18 +26,18 @@ impl<'a, 'c, P: PlanBrand> PlanJobs<'a, 'c, P> {
         alloc: Global,
         piece: Piece,
         in_order: bool,
-        input: SegmentInput<'_, '_, GivenWalk<'a>, Env<'c>, E>,
+        input: LegInput<'_, '_, GivenWalk<'a>, Env<'c>, E>,
         registers: &mut Registers,
         stop: &mut W,
     ) -> Result<Part<'a>, NoMemory>
         requires stop { (c : ℕ) → W.decides stop.old c
-            → DecidesIn (run_of (plans_in P.jobs)) piece.job piece.segment c }
+            → DecidesIn (run_of (plans_in P.jobs)) piece.job piece.leg c }
         requires piece { IsPieceOf (run_of (plans_in P.jobs)) piece }
         requires all { in_order ≡ true → (piece.from ≡ 0)
-            × (piece.to ≡ size_at (chain_at (plans_in P.jobs) piece.job) piece.segment) }
-        requires first { IfNone input.source (piece.segment ≡ 0) }
+            × (piece.to ≡ size_at (chain_at (plans_in P.jobs) piece.job) piece.leg) }
+        requires first { IfNone input.source (piece.leg ≡ 0) }
         requires source { IfSome input.source (λ walk. walk.now
-            ≡ given_at (chain_at (plans_in P.jobs) piece.job) piece.segment) }
+            ≡ given_at (chain_at (plans_in P.jobs) piece.job) piece.leg) }
         requires given { IsTaken (plans_in P.jobs) piece.job input.given.now }
         requires earlier { (j : ℕ) (a : answers) → E.is_answer j a → a ≡ answer_of (plans_in P.jobs) j }
         ensures stands { IfOk result (λ part. Stands (run_of (plans_in P.jobs)) piece part) }

@@ -5,13 +5,15 @@ ghost use Rattle.trace.specs.declared.sink.Flow.TheVariants as flows;
 ghost use Rattle.batch_eval.specs.Batches.{laid_items};
 ghost use Rattle.reduce_ops.specs.Operators.{value_of};
 ghost use Rattle.prefix_scan.specs.Scans.{fold_at, scan_at};
+ghost use Rattle.sort_ops.specs.Runs.{items_of};
 ghost use Rattle.prefix_walks.specs.Placing.{items_at, places_from};
 
 use batch_eval::{BatchSink, LaneItems, accept_each};
 use prefix_scan::scan_values;
 use reduce_ops::Op;
+use sort_ops::ItemSlice;
 use std::marker::Model;
-use trace::{Fed, Flow, Item, LongSink, NoMemory};
+use trace::{Fed, Flow, Item, LongSink, NoMemory, SourceItems};
 
 /// How many items a piece has at most.
 pub(crate) const MOST_ITEMS: usize = 1_024;
@@ -93,12 +95,12 @@ impl PieceBuffer {
     }
 
     /// Starts again with these items, if there is space for them.
-    pub(crate) fn fill(&mut self, items: &[Item])
-        ensures { length items.now ≤ 1024 → self.new ≡ items.now }
+    pub(crate) fn fill(&mut self, slice: ItemSlice<'_>)
+        ensures { length (items_of slice.entry) ≤ 1024 → self.new ≡ items_of slice.entry }
     {
         self.clear();
-        for item in items {
-            self.add(*item);
+        for position in 0..slice.count() {
+            self.add(slice.item_at(position));
         }
     }
 

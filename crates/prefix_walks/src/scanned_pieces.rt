@@ -22,6 +22,7 @@ use crate::piece_buffer::PieceBuffer;
 use crate::scanned::ScannedWalk;
 use crate::window::Window;
 use batch_eval::{BatchSink, Pipeline, Registers};
+use sort_ops::ItemSlice;
 use trace::{Fed, Flow, NoMemory};
 
 /// Takes the items at these positions of a given walk.
@@ -41,7 +42,9 @@ pub fn feed_given<S: BatchSink>(
     match &given.kept {
         Kept::Ended(_) => Ok(Fed::More),
         Kept::Scanned(walk) => feed_scanned(line, walk, window, registers, sink),
-        Kept::Items(items, _) => feed_items(line, items, window, registers, sink),
+        Kept::Items(items, _) => {
+            feed_items(line, ItemSlice::Items(items), window, registers, sink)
+        }
         Kept::Sorted(runs, _) => feed_runs(line, runs, window, registers, sink),
     }
 }

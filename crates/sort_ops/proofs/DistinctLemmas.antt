@@ -1,34 +1,38 @@
 -- What the parts of firsts are seen as.
-use Rattle.std.proofs.Common.{◌≡◌, List, [], ◌++◌, refl, sym, ap, ap₂, ◌∙◌, append_assoc, append-nil}
+use Rattle.std.proofs.Common.{◌≡◌, List, [], ◌++◌, refl, sym, ap, ap₂, ◌∙◌, append-nil}
 use Rattle.lambda_values.specs.declared.item.Item.{Item}
 use Rattle.trace.specs.declared.item.End.{End}
 use Rattle.trace.specs.declared.item.End.TheVariants as end
 use Rattle.trace.specs.Trace.{trace}
 use Rattle.sort_ops.specs.Firsts.{firsts}
-use Rattle.sort_ops.specs.Parts.{AbstractKept, end_after, kept, firsts_of, firsts_then, firsts_merged}
+use Rattle.sort_ops.specs.Parts.{AbstractKept, end_after, kept, firsts_of, firsts_then, firsts_merged, values_in}
 use Rattle.sort_ops.proofs.FirstLemmas.{firsts_merge}
 
+-- items of different values before others
+before_others : (xs ys : List Item) → firsts [] xs ≡ xs → xs ++ firsts (values_in xs) (firsts [] ys) ≡ firsts [] (xs ++ ys)
+before_others xs ys own = ap (λ (l : List Item). l ++ firsts (values_in l) (firsts [] ys)) (sym own) ∙ firsts_merge xs ys
+
 -- two pieces side by side
-pub joined : (all xs now : List Item) (e k : End) (part right : AbstractKept) → e ≡ end.Done → kept (firsts [] all) e ≡ part → kept (firsts [] xs) k ≡ right
-    → now ≡ firsts [] (all ++ xs) → kept now k ≡ firsts_merged part right
-joined all xs now e k part right done is other is_now =
-    ap (λ (l : List Item). kept l k) (is_now ∙ sym (firsts_merge all xs)) ∙ ap (λ (h : End). firsts_then (firsts [] all) h (kept (firsts [] xs) k)) (sym done)
-    ∙ ap₂ firsts_merged is other
+joined : (xs ys now : List Item) (e k : End) (part right : AbstractKept) → firsts [] part.items ≡ part.items → e ≡ end.Done → kept xs e ≡ part → kept (firsts [] ys) k ≡ right
+    → now ≡ firsts [] (xs ++ ys) → kept now k ≡ firsts_merged part right
+joined xs ys now e k part right own done is other is_now =
+    let items : xs ≡ part.items = ap (λ (p : AbstractKept). p.items) is in
+    ap (λ (l : List Item). kept l k) (is_now ∙ sym (before_others xs ys (ap (firsts []) items ∙ own ∙ sym items)))
+    ∙ ap (λ (h : End). firsts_then xs h (kept (firsts [] ys) k)) (sym done) ∙ ap₂ firsts_merged is other
 
 -- items of a source after a part
-pub pushed_firsts : (fs ls more xs now : List Item) (e : End) (part : AbstractKept) → part.ending ≡ end.Done → kept (firsts [] (fs ++ ls)) e ≡ part → more ≡ ls ++ xs
-    → now ≡ firsts [] (fs ++ more) → kept now e ≡ firsts_merged part (firsts_of (trace xs end.Done))
-pushed_firsts fs ls more xs now e part going is added is_now =
+pub pushed_firsts : (xs ys now : List Item) (e : End) (part : AbstractKept) → firsts [] part.items ≡ part.items → part.ending ≡ end.Done → kept xs e ≡ part
+    → now ≡ firsts [] (xs ++ ys) → kept now e ≡ firsts_merged part (firsts_of (trace ys end.Done))
+pushed_firsts xs ys now e part own going is is_now =
     let done : e ≡ end.Done = ap (λ (k : AbstractKept). k.ending) is ∙ going in
-    ap (kept now) done ∙ joined (fs ++ ls) xs now e end.Done part (firsts_of (trace xs end.Done)) done is refl
-    (is_now ∙ ap (firsts []) (ap (λ (l : List Item). fs ++ l) added ∙ sym (append_assoc fs ls xs)))
+    ap (kept now) done ∙ joined xs ys now e end.Done part (firsts_of (trace ys end.Done)) own done is refl is_now
 
 -- another part after a part
-pub gone_on_firsts : (fs ls rs ms loose now : List Item) (e k : End) (part right : AbstractKept) → e ≡ end.Done → kept (firsts [] (fs ++ ls)) e ≡ part
-    → kept (firsts [] (rs ++ ms)) k ≡ right → loose ≡ (ls ++ rs) ++ ms → now ≡ firsts [] (fs ++ loose) → kept now k ≡ firsts_merged part right
-gone_on_firsts fs ls rs ms loose now e k part right done is other added is_now =
-    joined (fs ++ ls) (rs ++ ms) now e k part right done is other
-    (is_now ∙ ap (firsts []) (ap (λ (l : List Item). fs ++ l) (added ∙ append_assoc ls rs ms) ∙ sym (append_assoc fs ls (rs ++ ms))))
+pub gone_on_firsts : (xs ys now : List Item) (e k : End) (part right : AbstractKept) → firsts [] part.items ≡ part.items → firsts [] right.items ≡ right.items → e ≡ end.Done
+    → kept xs e ≡ part → kept ys k ≡ right → now ≡ firsts [] (xs ++ ys) → kept now k ≡ firsts_merged part right
+gone_on_firsts xs ys now e k part right own right_own done is other is_now =
+    let items : ys ≡ right.items = ap (λ (p : AbstractKept). p.items) other in
+    joined xs ys now e k part right own done is (ap (λ (l : List Item). kept l k) (ap (firsts []) items ∙ right_own ∙ sym items) ∙ other) is_now
 
 -- a walk that ends so after a part
 pub ended_firsts : (xs ys : List Item) (k e : End) (part : AbstractKept) → ys ≡ xs → kept xs k ≡ part → kept ys (end_after k e) ≡ firsts_merged part (firsts_of (trace [] e))

@@ -8,7 +8,7 @@ use Rattle.trace.specs.Trace.{Trace, trace, nothing, append, then_on}
 use Rattle.trace.proofs.JoinLemmas.{append_faulted, append_grouped, append_nothing}
 use Rattle.sort_ops.specs.Firsts.{distinct_walk, firsts}
 use Rattle.sort_ops.specs.Parts.{AbstractFirsts, AbstractKept, AreEnough, AreFirsts, firsts_merged, firsts_of, done_after, trace_of}
-use Rattle.sort_ops.proofs.FirstLemmas.{firsts_side}
+use Rattle.sort_ops.proofs.FirstLemmas.{firsts_side, firsts_twice}
 use Rattle.sort_ops.proofs.EnoughLemmas.{enough_after, enough_before, enough_stays}
 
 -- the firsts of a whole walk
@@ -16,6 +16,12 @@ whole_of : (m : Option ℕ) (p : AbstractFirsts) (t : Trace) → AreFirsts m p t
 whole_of m p t are open_yet =
     let a = are.front.0 in
     are.front.3 ∙ ap firsts_of (sym (are.front.2 ∙ ap (append a) (are.front.4 open_yet) ∙ append_nothing a))
+
+-- the items of a part have different values
+pub own_items : (m : Option ℕ) (p : AbstractFirsts) (t : Trace) → AreFirsts m p t → firsts [] p.kept.items ≡ p.kept.items
+own_items m p t are =
+    let is : p.kept.items ≡ firsts [] are.front.0.items = ap (λ (k : AbstractKept). k.items) are.front.3 in
+    ap (firsts []) is ∙ firsts_twice [] [] are.front.0.items ∙ sym is
 
 -- a part that isn't full goes on with a walk, and keeps it whole
 pub goes_on : (m : Option ℕ) (p new : AbstractFirsts) (t u : Trace) → p.full ≡ false → new.most ≡ p.most → new.kept ≡ firsts_merged p.kept (firsts_of u)

@@ -16,3 +16,4 @@ pub mod RangeLemmas
 pub mod RunLemmas
 pub mod SortLemmas
 pub mod UniqueLemmas
+pub mod ValueLemmas

@@ -5,3 +5,4 @@ pub mod Orders
 pub mod Parts
 pub mod Places
 pub mod Ranges
+pub mod Runs

@@ -1,11 +1,34 @@
--- Design: items of different values, with the set of these values.
-use Rattle.std.specs.Prelude.{◌≡◌, ℤ, List, []}
+-- Design: items, and sets that find those whose value came before.
+use Rattle.std.specs.Prelude.{◌≡◌, ◌*◌, ◌/◌, ◌%◌, ◌^◌, ◌==◌, ◌≤◌, ℕ, ℤ, Bool, true, false, unsigned_abs, List, [], ◌∷◌, length, take, Option, None, Some, ⊤}
 use Rattle.std.specs.Ordering.{int_eq}
-use Rattle.std.specs.HashSet.{HashSet, contains}
+use Rattle.std.specs.HashSet.{contains}
 use Rattle.lambda_values.specs.declared.item.Item.{Item}
-use Rattle.sort_ops.specs.Firsts.{firsts, is_among}
+use Rattle.sort_ops.specs.declared.lookup.Lookup.{Lookup}
+use Rattle.sort_ops.specs.Firsts.{is_among}
 use Rattle.sort_ops.specs.Parts.{values_in}
 
--- the items have different values, and a set has just these values
-abbrev pub IsKept : {S : Type 0} → List Item → HashSet ℤ S → Type 0
-IsKept xs seen = (firsts [] xs ≡ xs) × ((v : ℤ) → contains int_eq seen v ≡ is_among v (values_in xs))
+-- values are spread over sixteen classes; the class of a value
+abbrev pub class_of : ℤ → ℕ
+class_of v = (unsigned_abs v * 11400714819323198485 % 2 ^ 64 / 2 ^ 32) % 16
+
+-- whether a value is in a class; where none is given, each value is
+abbrev pub is_in : Option ℕ → ℤ → Bool
+is_in None v = true
+is_in (Some c) v = class_of v == c
+
+-- no value of this class comes twice
+abbrev pub AreOnce : Option ℕ → List Item → Type 0
+AreOnce c [] = ⊤
+AreOnce c (x ∷ xs) = (is_in c x.value ≡ true → is_among x.value (values_in xs) ≡ false) × AreOnce c xs
+
+-- unless memory was refused, a set has of the values of its class just those of these items
+abbrev pub Knows : Lookup → List Item → Type 0
+Knows l xs = l.refused ≡ false → (v : ℤ) → is_in l.class v ≡ true → contains int_eq l.seen v ≡ is_among v (values_in xs)
+
+-- the first items have different values, and a set has just these values
+pub record AreKnown (xs : List Item) (known : ℕ) (l : Lookup) : Type 0 where
+  pub within : known ≤ length xs
+  pub once : AreOnce None (take known xs)
+  pub all : l.class ≡ None
+  pub going : l.refused ≡ false
+  pub knows : Knows l (take known xs)

@@ -22,6 +22,6 @@ walk_of xs = trace (items_from 0 xs) end.Done
 abbrev pub EndsAtOnce : List ℤ → Type 0
 EndsAtOnce xs = Decides (λ (t : Trace). t.ending) (walk_of xs) 0
 
--- the number of a job's last segment
+-- the number of a job's last leg
 abbrev pub JobLast : ℕ → ℕ
 JobLast job = job % 3

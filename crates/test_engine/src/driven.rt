@@ -7,7 +7,7 @@ ghost use Rattle.job_runner.specs.Runs.{stop_id_of};
 use crate::shown::{columns_of, plan_of};
 use crate::worked::{COLUMNS, FILES};
 use job_plan::Plan;
-use job_runner::{JobSegments, NoMemory, RunBrand, TableFreshCounts, TableWork};
+use job_runner::{JobLegs, NoMemory, RunBrand, TableFreshCounts, TableWork};
 use job_table::PlanJobs;
 use run_settings::{Form, Settings};
 use std::alloc::{AllocError, Global};
@@ -68,7 +68,7 @@ where
 }
 
 /// How many answers are found after all tasks were run here, with a `Spawn` that drops the first `drops`.
-fn answers_found<S: JobSegments + Send + Sync, R: RunBrand + Send + Sync, H: Wait>(
+fn answers_found<S: JobLegs + Send + Sync, R: RunBrand + Send + Sync, H: Wait>(
     rt: &H,
     alloc: Global,
     jobs: &S,
@@ -102,7 +102,7 @@ where
 }
 
 /// How many answers of these jobs are found after a run whose tasks are dropped.
-fn found<S: JobSegments + Send + Sync, H: Wait>(
+fn found<S: JobLegs + Send + Sync, H: Wait>(
     rt: &H,
     alloc: Global,
     jobs: &S,

@@ -7,8 +7,7 @@ ghost use Rattle.test_engine.specs.ListLaws.{one_list};
 
 use early_stop::Stop;
 use job_runner::{
-    Begun, CutPiece, EarlierAnswers, JobSegments, NextSource, NoMemory, Piece, SegmentInput,
-    run_all,
+    Begun, CutPiece, EarlierAnswers, JobLegs, LegInput, NextSource, NoMemory, Piece, run_all,
 };
 use run_settings::Settings;
 use std::alloc::Global;
@@ -33,7 +32,7 @@ impl JobNumbers for Brand {
     ghost numbers = { λ _. [] };
 }
 
-/// Jobs, each with a list of numbers. Each segment of a job copies the list; the job with the number k has k % 3 + 1 of
+/// Jobs, each with a list of numbers. Each leg of a job copies the list; the job with the number k has k % 3 + 1 of
 /// them.
 #[derive(Drop)]
 pub struct Lists<'a, P: JobNumbers> {
@@ -73,7 +72,7 @@ impl<'a, P: JobNumbers> Lists<'a, P> {
     }
 }
 
-impl<'a, P: JobNumbers + Sync> JobSegments for Lists<'a, P> {
+impl<'a, P: JobNumbers + Sync> JobLegs for Lists<'a, P> {
     type Part = Vec<i64>;
 
     type Source = Vec<i64>;
@@ -106,7 +105,7 @@ impl<'a, P: JobNumbers + Sync> JobSegments for Lists<'a, P> {
         self.lists.len()
     }
 
-    fn last_segment(&self, job: usize) -> usize {
+    fn last_leg(&self, job: usize) -> usize {
         job % 3
     }
 
@@ -114,11 +113,11 @@ impl<'a, P: JobNumbers + Sync> JobSegments for Lists<'a, P> {
         Ok(Vec::new(alloc))
     }
 
-    fn likely_size(&self, job: usize, _segment: usize) -> u64 {
+    fn likely_size(&self, job: usize, _leg: usize) -> u64 {
         self.list(job).len() as u64
     }
 
-    fn likely_values(&self, _job: usize, _segment: usize) -> Option<u64> {
+    fn likely_values(&self, _job: usize, _leg: usize) -> Option<u64> {
         Some(1)
     }
 
@@ -157,12 +156,12 @@ impl<'a, P: JobNumbers + Sync> JobSegments for Lists<'a, P> {
         &self,
         alloc: Global,
         piece: Piece,
-        input: SegmentInput<'_, '_, Vec<i64>, (), E>,
+        input: LegInput<'_, '_, Vec<i64>, (), E>,
         _scratch: &mut (),
         _stop: &mut W,
     ) -> Result<Vec<i64>, NoMemory>
         requires piece { IsPiece P.jobs (λ job. JobLast job)
-            (λ job _. length (P.numbers job)) piece.job piece.segment piece.from piece.to }
+            (λ job _. length (P.numbers job)) piece.job piece.leg piece.from piece.to }
         requires source { IfSome input.source (λ list. list.now.items ≡ P.numbers piece.job) }
         ensures { IfOk result (λ part. part.items ≡ slice (P.numbers piece.job) piece.from piece.to) }
     {
@@ -191,7 +190,7 @@ impl<'a, P: JobNumbers + Sync> JobSegments for Lists<'a, P> {
         &self,
         _alloc: Global,
         _job: usize,
-        _segment: usize,
+        _leg: usize,
         part: Vec<i64>,
         _given: &(),
     ) -> Result<NextSource<Vec<i64>>, NoMemory> {
@@ -205,7 +204,7 @@ impl<'a, P: JobNumbers + Sync> JobSegments for Lists<'a, P> {
         _alloc: Global,
         job: usize,
         part: Vec<i64>,
-        _input: SegmentInput<'_, '_, Vec<i64>, (), E>,
+        _input: LegInput<'_, '_, Vec<i64>, (), E>,
         _scratch: &mut (),
     ) -> Result<Vec<i64>, NoMemory>
         requires part { part.items ≡ slice (P.numbers job) 0 (length (P.numbers job)) }

@@ -1,4 +1,4 @@
-//! Answers as text, and jobs in segments.
+//! Answers as text, and the plans of files of jobs.
 
 use columns::{Columns, read_columns};
 use counted_io::Counted;
@@ -17,7 +17,7 @@ pub(crate) fn columns_of(alloc: Global, file: &str) -> Result<Columns, AllocErro
     }
 }
 
-/// The jobs of a file in segments. It fails if the file is refused.
+/// The plan of the jobs of a file. It fails if the file is refused.
 pub(crate) fn plan_of<'c>(
     alloc: Global,
     file: &[u8],

@@ -12,4 +12,4 @@ returns-clause-put c rows all =
     let text = strip_bom c.args.text.now in
     let is : records_in s c.args.text.now ≡ rows = AreRowsIn-same s text (records_in s c.args.text.now) rows (rows_of_text s text) all in
     let reading : IsReading c.reader_of-reader.result rows = subst (IsReading c.reader_of-reader.result) is c.reader_of-reader.ensures in
-    rw (sym c.next_row-number.ensures) (c.read_rows.ensures.rows rows reading)
+    rw (sym c.row_count-number.ensures.rows) (c.read_rows.ensures.rows rows reading)

@@ -1,4 +1,4 @@
-use Rattle.std.proofs.Common.{◌≡◌, All, length, map, refl, rules, sym, take}
+use Rattle.std.proofs.Common.{◌≡◌, All, length, map, arith, refl, rules, sym, take}
 use Rattle.std.proofs.lemmas.List.{length-map}
 use Rattle.columns.specs.Pieces.{IsPieceThere, append_pieces}
 use Rattle.tables.specs.TableOfColumns.{named}
@@ -6,7 +6,7 @@ use Rattle.columns.proofs.TextRowLemmas.{AreReadIn-join, AreReadIn-none}
 use Rattle.columns.proofs.pieces.read_in_turns.Goals as goal
 
 pub loop-init : goal.loop-init
-loop-init g c = (c.requires.within, refl, AreReadIn-none _ _ _ _ _)
+loop-init g c = (omega arith, refl, AreReadIn-none _ _ _ _ _)
 
 pub loop-preserved : goal.loop-preserved
 loop-preserved g c =

@@ -7,4 +7,4 @@ use Rattle.columns.proofs.pieces.read_in_turns.Given as goal
 abbrev pub invariant-loop : goal.invariant-loop
 invariant-loop g l =
     (l.at ≤ length l.text) × (length l.columns ≡ length l.initial.columns)
-    × AreReadBy l.layout (drop l.from l.text) (drop l.at l.text) (map named l.initial.columns) (map named l.columns)
+    × AreReadBy l.layout l.text (drop l.at l.text) (map named l.initial.columns) (map named l.columns)

@@ -5,6 +5,9 @@ use Rattle.tables.specs.TableOfColumns.{named}
 use Rattle.columns.proofs.FrontLemmas.{IsFront-put}
 use Rattle.columns.proofs.reading.put_text.Goals as goal
 
+pub read_text_rows-end-requires-clause-even : goal.read_text_rows-end-requires-clause-even
+read_text_rows-end-requires-clause-even c = (0, c.requires.empty)
+
 pub returns-clause-put : goal.returns-clause-put
 returns-clause-put c form f =
     let l = c.args.layout.now in

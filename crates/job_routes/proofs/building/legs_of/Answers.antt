@@ -45,6 +45,7 @@ pub returns : goal.returns
 returns c = λ env ss.
     let b = c.loop-stage.begun in
     let asked = c.ask_for.new.self in
+    let dropped = c.drop_places.new.self in
     let e = c.take_leg-last.ensures in
     let d = terminal_of c.args.terminal in
     let n = number_after b.stages in
@@ -55,7 +56,7 @@ returns c = λ env ss.
     = sym (ap (λ js. after_stages n (job_stages_of js) env (begun_walk b env ss)) none) ∙ c.loop-stage.invariant.2 env ss in
     (λ i. given_answer (ended (end_in (e.leg.3 i)) (number_after (e.leg.2 i)) env (walk_through (e.leg.2 i) env (linked (links_in (e.leg.1 i).items) env
     (windowed (e.leg.0 i).from (e.leg.0 i).to (scanned (legs_in (e.kept i).items) env (source_walk ss)))))))
-    ∙ (λ i. given_answer (ended (end_in c.end_for-walked.result) (number_after (c.ask_for.ensures.kept.1 i)) env (begun_walk asked env ss)))
-    ∙ ap given_answer (c.end_for-walked.ensures n env ss ∙ c.ask_for.ensures.walk n env ss ∙ ap (λ (f : AbstractEnd). ended f n env (begun_walk b env ss)) c.loop-stage.invariant.6)
+    ∙ (λ i. given_answer (ended (end_in c.end_for-walked.result) (number_after ((c.drop_places.ensures.kept.1 ∙ c.ask_for.ensures.kept.1) i)) env (begun_walk dropped env ss)))
+    ∙ ap given_answer (c.drop_places.ensures.walk n env ss ∙ c.end_for-walked.ensures n env ss ∙ c.ask_for.ensures.walk n env ss ∙ ap (λ (f : AbstractEnd). ended f n env (begun_walk b env ss)) c.loop-stage.invariant.6)
     ∙ terminal_ends d n env (begun_walk b env ss)
     ∙ (λ i. answer_of (last i) env d (walk i))

@@ -1,9 +1,9 @@
 use Rattle.std.proofs.Common.{◌≡◌, IfNone, IfSome}
 use Rattle.job_runner.proofs.alone.walk_alone.Given as goal
 
-abbrev pub invariant-loop-segment : goal.invariant-loop-segment
-invariant-loop-segment g l = record {
-  first : IfNone l.source (l.segment ≡ 0);
-  source : IfSome l.source (λ source. g.S.JobSegments.run.is_source l.job l.segment source);
-  size : l.size ≡ g.S.JobSegments.run.size l.job l.segment;
+abbrev pub invariant-loop-leg : goal.invariant-loop-leg
+invariant-loop-leg g l = record {
+  first : IfNone l.source (l.leg ≡ 0);
+  source : IfSome l.source (λ source. g.S.JobLegs.run.is_source l.job l.leg source);
+  size : l.size ≡ g.S.JobLegs.run.size l.job l.leg;
 }

@@ -5,7 +5,7 @@ use Rattle.job_runner.proofs.places.first_of_next.Goals as goal
 
 pub returns : goal.returns
 returns g c = λ small.
-    let last = g.S.JobSegments.run.last in
+    let last = g.S.JobLegs.run.last in
     let a = c.saturating_add.ensures in
     let b = c.saturating_add-2.ensures in
     let e = c.requires.last in

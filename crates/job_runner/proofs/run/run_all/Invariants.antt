@@ -7,10 +7,10 @@ use Rattle.job_runner.proofs.run.run_all.Given as goal
 abbrev pub ghosts-run_on : goal.ghosts-run_on
 ghosts-run_on g a = record {
   table = table_id_of a.opened.counts;
-  jobs = g.S.JobSegments.run.jobs;
-  start = λ j. node_at a.opened.starts.items (g.S.JobSegments.run.jobs - 1 - j);
-  keeps = λ j. kept_at a.opened.starts.items (g.S.JobSegments.run.jobs - 1 - j);
-  last = g.S.JobSegments.run.last;
-  size = g.S.JobSegments.run.size;
+  jobs = g.S.JobLegs.run.jobs;
+  start = λ j. node_at a.opened.starts.items (g.S.JobLegs.run.jobs - 1 - j);
+  keeps = λ j. kept_at a.opened.starts.items (g.S.JobLegs.run.jobs - 1 - j);
+  last = g.S.JobLegs.run.last;
+  size = g.S.JobLegs.run.size;
   stops = stop_id_of a.opened.stops;
 }

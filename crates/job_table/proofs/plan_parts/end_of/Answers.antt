@@ -1,6 +1,6 @@
 use Rattle.std.proofs.Common.{None, Some, refl}
 use Rattle.job_plan.specs.Parts.{walk_in}
-use Rattle.job_table.specs.PlanSegments.{walk_size}
+use Rattle.job_table.specs.PlanLegs.{walk_size}
 use Rattle.job_table.proofs.PlanParts.{upto_all, upto_some}
 use Rattle.job_table.proofs.plan_parts.end_of.Goals as goal
 

@@ -5,7 +5,7 @@ use Rattle.job_plan.specs.Parts.{StandsFor}
 use Rattle.job_plan.specs.Plans.{plan_in}
 use Rattle.job_routes.specs.Legs.{AbstractSegment, outcome_of}
 use Rattle.job_meaning.specs.Walks.{instead_of_fault}
-use Rattle.job_table.specs.PlanSegments.{last_leg}
+use Rattle.job_table.specs.PlanLegs.{last_leg}
 use Rattle.job_table.proofs.PlanParts.{last_answer}
 use Rattle.job_table.proofs.plan_parts.job_answer.Goals as goal
 

@@ -1,7 +1,7 @@
 use Rattle.std.proofs.Common.{◌≡◌, ◌∙◌, ap, sym}
 use Rattle.job_routes.specs.Legs.{leg_in, leg_at, leg_walk}
 use Rattle.job_plan.specs.Parts.{walk_in}
-use Rattle.job_table.specs.PlanSegments.{size_at, source_at}
+use Rattle.job_table.specs.PlanLegs.{size_at, source_at}
 use Rattle.job_table.proofs.PlanParts.{one_piece, piece_stands, streamed_stands}
 use Rattle.job_table.proofs.plan_parts.walked_piece.Goals.{then-in_order-via-then-in_order, then-in_order-via-else-in_order+then-streams}
 use Rattle.job_table.proofs.plan_parts.walked_piece.Goals as goal
@@ -9,7 +9,7 @@ use Rattle.job_table.proofs.plan_parts.walked_piece.Goals as goal
 pub returns-then-in_order-clause-stands : goal.returns-then-in_order-clause-stands
 returns-then-in_order-clause-stands g c = λ chain legs numbers walks within all more.
     let piece = c.args.piece in
-    let k = piece.segment in
+    let k = piece.leg in
     let leg = leg_in c.leg-leg.result.now in
     let got : leg ≡ leg_at k chain.legs = c.leg-leg.ensures ∙ ap (leg_at k) (sym legs) in
     let over : walk_in c.of_leg-source.result ≡ source_at chain k = c.of_leg-source.ensures ∙ (λ i. leg_walk (got i) (walks i)) in
@@ -21,7 +21,7 @@ returns-then-in_order-clause-stands g c = λ chain legs numbers walks within all
 
 pub returns-clause-stands : goal.returns-clause-stands
 returns-clause-stands g c = λ chain legs numbers walks within all more.
-    let k = c.args.piece.segment in
+    let k = c.args.piece.leg in
     let leg = leg_in c.leg-leg.result.now in
     let got : leg ≡ leg_at k chain.legs = c.leg-leg.ensures ∙ ap (leg_at k) (sym legs) in
     let over : walk_in c.of_leg-source.result ≡ source_at chain k = c.of_leg-source.ensures ∙ (λ i. leg_walk (got i) (walks i)) in

@@ -8,4 +8,4 @@ lower_with-requires-clause-decisive g c =
     let w = c.args.self.now in
     let low : w.word < c.segments.result = c.if-self-segments.true in
     let fits : c.segments.result < 4294967296 = search rules in
-    decisive_here g.S.JobSegments.run (pair_at g.S.JobSegments.run.last g.S.JobSegments.run.jobs w.word) w.job w.segment c.args.place (w.named (omega (arith, low, fits))).0 c.requires.decisive
+    decisive_here g.S.JobLegs.run (pair_at g.S.JobLegs.run.last g.S.JobLegs.run.jobs w.word) w.job w.leg c.args.place (w.named (omega (arith, low, fits))).0 c.requires.decisive

@@ -1,7 +1,7 @@
 use Rattle.std.proofs.Common.{◌≡◌, drop}
 use Rattle.job_meaning.specs.FileAnswers.{array_named}
 use Rattle.job_plan.specs.Plans.{jobs_at, plans_in}
-use Rattle.job_table.specs.PlanSegments.{answers_before}
+use Rattle.job_table.specs.PlanLegs.{answers_before}
 use Rattle.job_table.proofs.planned.PlanJobs.array.Given as goal
 
 -- none so far has the name

@@ -1,7 +1,7 @@
 use Rattle.std.proofs.Common.{◌∙◌, ◌≡◌, ap, arith, length, List, rules}
 use Rattle.job_plan.specs.declared.plan.JobPlan.{JobPlan}
 use Rattle.job_plan.specs.Plans.{plans_in}
-use Rattle.job_table.specs.PlanSegments.{plan_at}
+use Rattle.job_table.specs.PlanLegs.{plan_at}
 use Rattle.job_table.proofs.PlanParts.{job_within, plan_got}
 use Rattle.job_table.proofs.planned.PlanJobs.job.Goals as goal
 

@@ -2,7 +2,7 @@ use Rattle.std.proofs.Common.{◌≡◌, ◌++◌, drop}
 use Rattle.lambda_values.specs.Earlier.{table_in}
 use Rattle.job_meaning.specs.FileAnswers.{first_unusable, numbers_of}
 use Rattle.job_plan.specs.Plans.{jobs_at, plans_in}
-use Rattle.job_table.specs.PlanSegments.{answers_before}
+use Rattle.job_table.specs.PlanLegs.{answers_before}
 use Rattle.job_table.proofs.planned.PlanJobs.numbers.Given as goal
 
 -- none so far is unusable; the table; the numbers so far, and those of the jobs that are left

@@ -3,7 +3,7 @@ use Rattle.job_language.specs.Jobs.{source_of, sources_of}
 use Rattle.job_meaning.specs.FileAnswers.{all_put_in, put_in}
 use Rattle.job_plan.specs.declared.plan.Named.{Named}
 use Rattle.job_plan.specs.Plans.{jobs_at, plans_in}
-use Rattle.job_table.specs.PlanSegments.{answers_before}
+use Rattle.job_table.specs.PlanLegs.{answers_before}
 use Rattle.job_table.proofs.PlannedAnswers.{put_more}
 use Rattle.job_table.proofs.planned.PlanJobs.put_sources.Goals as goal
 

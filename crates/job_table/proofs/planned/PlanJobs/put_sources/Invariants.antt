@@ -2,7 +2,7 @@ use Rattle.std.proofs.Common.{◌≡◌, ◌++◌, drop}
 use Rattle.job_language.specs.Jobs.{sources_of}
 use Rattle.job_meaning.specs.FileAnswers.{all_put_in}
 use Rattle.job_plan.specs.Plans.{jobs_at, plans_in}
-use Rattle.job_table.specs.PlanSegments.{answers_before}
+use Rattle.job_table.specs.PlanLegs.{answers_before}
 use Rattle.job_table.proofs.planned.PlanJobs.put_sources.Given as goal
 
 -- the sources so far, and those that are left

@@ -1,6 +1,0 @@
-use Rattle.std.specs.Prelude.{IfSome}
-use Rattle.job_runner.specs.Cuts.{StandsWhole}
-use Rattle.job_runner.proofs.ending.JobWork+S+TablePart+S+TableKept+S+R.end_segments.Given as goal
-
-abbrev pub invariant-loop : goal.invariant-loop
-invariant-loop g l = IfSome l.ended (λ whole. StandsWhole g.S.JobSegments.run (λ x. x.found) whole.job.job whole.segment whole.part)

@@ -1,0 +1,120 @@
+//! Sets of values, which find the items whose value came before.
+
+ghost use Rattle.std.specs.Prelude.{◌≡◌, ◌≤◌, [], ◌∷◌, ◌++◌, ℕ, List, Option, None, take, true, false, vec_len, OnOk};
+ghost use Rattle.lambda_values.specs.declared.item.Item.{Item as meant_item};
+ghost use Rattle.sort_ops.specs.Firsts.{firsts, is_among};
+ghost use Rattle.sort_ops.specs.NewValues.{AreOnce, Knows, class_of, is_in};
+ghost use Rattle.sort_ops.specs.Parts.{values_in};
+
+use std::alloc::Global;
+use std::collections::HashSet;
+use trace::{Item, NoMemory};
+
+/// Over how many classes values are spread.
+const CLASSES: u64 = 16;
+
+/// It spreads the bits of values that are close together.
+const SPREAD: u64 = 11_400_714_819_323_198_485;
+
+/// The values of items, or those of one class.
+#[derive(Drop)]
+pub(crate) struct Lookup {
+    class: Option<u64>,
+    seen: HashSet<i64>,
+    /// Whether memory for a value was refused. After that no item is found.
+    pub(crate) refused: bool,
+}
+
+impl Lookup {
+    /// Without values: for those of a class, or for all. It takes no memory.
+    pub(crate) fn none(alloc: Global, class: Option<u64>) -> Lookup
+        ensures knows { Knows result [] }
+        ensures class { result.class ≡ class }
+        ensures open { result.refused ≡ false }
+    {
+        Lookup {
+            class,
+            seen: HashSet::new(alloc),
+            refused: false,
+        }
+    }
+
+    /// Whether an item stays: its value is new, or isn't looked up. Then its value is among those that came before.
+    fn stays(&mut self, item: Item) -> bool
+        ensures class { self.new.class ≡ self.old.class }
+        ensures going { self.new.refused ≡ false → self.old.refused ≡ false }
+        ensures new { result ≡ true → (xs : List meant_item) → Knows self.old xs → Knows self.new (xs ++ item ∷ []) }
+        ensures once { result ≡ true → self.new.refused ≡ false → (xs : List meant_item) → Knows self.old xs
+            → is_in self.old.class item.value ≡ true → is_among item.value (values_in xs) ≡ false }
+        ensures old { result ≡ false → (xs : List meant_item) → Knows self.old xs → Knows self.new xs }
+        ensures again { result ≡ false → (xs : List meant_item) → Knows self.old xs
+            → is_among item.value (values_in xs) ≡ true }
+    {
+        if self.refused || !is_in(self.class, item.value) {
+            return true;
+        }
+        match self.seen.insert(item.value) {
+            Ok(is_new) => is_new,
+            Err(_) => {
+                self.refused = true;
+                true
+            }
+        }
+    }
+}
+
+/// Whether a value is in a class, or in any where none is given.
+fn is_in(class: Option<u64>, value: i64) -> bool
+    ensures { result ≡ is_in class value }
+{
+    match class {
+        Some(class) => class_of(value) == class,
+        None => true,
+    }
+}
+
+/// The class of a value.
+fn class_of(value: i64) -> u64
+    ensures { result ≡ class_of value }
+{
+    value.unsigned_abs().wrapping_mul(SPREAD) / (1 << 32) % CLASSES
+}
+
+/// Takes out the items from position `from` on whose value came before and is looked up. The items before `from` are
+/// known to the set.
+pub(crate) fn take_out(items: &mut Vec<Item>, from: usize, lookup: &mut Lookup)
+    requires within { from ≤ vec_len items.old }
+    requires known { Knows lookup.old (take from items.old.items) }
+    ensures firsts { firsts [] items.new.items ≡ firsts [] items.old.items }
+    ensures known { Knows lookup.new items.new.items }
+    ensures class { lookup.new.class ≡ lookup.old.class }
+    ensures once { lookup.new.refused ≡ false → AreOnce lookup.old.class (take from items.old.items)
+        → AreOnce lookup.old.class items.new.items }
+    ensures others { (c : Option ℕ) → AreOnce c items.old.items → AreOnce c items.new.items }
+{
+    let mut kept = from;
+    for position in from..items.len() {
+        let item = items[position];
+        if lookup.stays(item) {
+            items[kept] = item;
+            kept += 1;
+        }
+    }
+    items.truncate(kept);
+}
+
+/// Takes out all items whose value came before, one class of values after the other: the set of one class is small, so
+/// it takes little memory and stays in the cache of a processor. If an allocation fails, some may stay.
+pub(crate) fn take_out_by_classes(items: &mut Vec<Item>) -> Result<(), NoMemory>
+    ensures firsts { firsts [] items.new.items ≡ firsts [] items.old.items }
+    ensures once { OnOk result (AreOnce None items.new.items) }
+{
+    for class in 0..CLASSES {
+        let mut lookup = Lookup::none(*items.allocator(), Some(class));
+        take_out(items, 0, &mut lookup);
+        if lookup.refused {
+            return Err(NoMemory);
+        }
+    }
+    Ok(())
+}
