@@ -105,6 +105,34 @@ def type_names(top):
                 yield f'{word} is a public name of {found[word]} and of {crate}'
 
 
+def tests_of(top, crate):
+    """Who tests a crate, as its `//!` page says it: files of the crates of tests that use it, and runs of the programs."""
+    users = {}
+    for tests, path in sources_of(top):
+        if tests.startswith('test_') and re.search(rf'^use {crate}::', read(path), re.M):
+            users.setdefault(tests, []).append(f'`{os.path.basename(path)}`')
+    found = [f'{", ".join(sorted(files))} of `{tests}`' for tests, files in sorted(users.items())]
+    return '; '.join(found + ['runs of the programs in `tests`'] if is_run(top, crate) else found)
+
+
+def is_run(top, crate):
+    """Whether a program is this crate, or stands on it."""
+    crates, reached = crates_of(top), ['streamrun', 'streamrun_merge']
+    for name in reached:
+        reached += [other for other in crates.get(name, []) if other not in reached]
+    return crate in reached
+
+
+def tested(top):
+    """Crates whose `//!` page doesn't end with «Tested: » and the files of tests that use the crate."""
+    for crate in libraries_of(top):
+        path = next(path for _, path in sources_of(top, crate) if os.path.basename(path) in ('lib.rt', 'main.rt'))
+        page = ' '.join(line[4:] for line in re.match(r'(?://!.*\n)+', read(path))[0].splitlines())
+        wanted = f'Tested: {tests_of(top, crate)}.'
+        if not page.endswith(wanted):
+            yield f'{crate}: its page does not end with "{wanted}"'
+
+
 def marked(top, crate, name):
     """Whether the comment of a public item, or the page of its crate, says that it is for other programs."""
     page = re.sub(r'\n//! ?', ' ', read(os.path.join(top, 'crates', crate, 'src', 'lib.rt')).split('#![')[0])

@@ -20,14 +20,14 @@ def words_of(text):
     return joined
 
 
-def wrapped(lines):
-    """A paragraph or an item of a list in lines of at most COLUMNS columns."""
+def wrapped(lines, columns=COLUMNS):
+    """A paragraph or an item of a list in lines of at most so many columns."""
     item = ITEM.match(lines[0])
     first = item[0] if item else re.match(r'\s*', lines[0])[0]
     rest = ' ' * len(first) if item else first
     out, line = [], first
     for word in words_of(' '.join([lines[0][len(first):], *lines[1:]])):
-        if line.strip() and line != first and len(line) + 1 + len(word) > COLUMNS:
+        if line.strip() and line != first and len(line) + 1 + len(word) > columns:
             out.append(line)
             line = rest + word
         else:

@@ -4,6 +4,7 @@ import os
 import re
 
 from page_layout import page_wrapped, too_long, torn as torn_lines
+from proof_layout import folded
 from repository import read, sources_of, write
 
 MOST_WORDS_OF_THE_README, MOST_WORDS_OF_A_PAGE, MOST_WORDS = 1000, 6500, 47_144
@@ -214,10 +215,10 @@ def wrapped_pages(top):
 
 
 def wrap_pages(pages):
-    """Lays out anew the paragraphs of pages that have a longer line."""
+    """Lays out anew the paragraphs of pages that have a longer line, and folds the wide lines of definitions and proofs."""
     for page in pages:
         old = read(page)
-        new = page_wrapped(old)
+        new = folded(old) if page.endswith('.antt') else page_wrapped(old)
         if new != old:
             write(page, new)
             print(f'wrapped {os.path.relpath(page)}')

@@ -31,6 +31,11 @@ def sources_of(top, crate='*'):
         yield path.relative_to(crates).parts[0], str(path)
 
 
+def proofs_of(top, crate='*'):
+    """The files of definitions and proofs of a crate, or of all."""
+    return sorted(str(path) for part in ('specs', 'proofs') for path in pathlib.Path(top, 'crates').glob(f'{crate}/{part}/**/*.antt'))
+
+
 def script(*path):
     """A script of the repository, as a module."""
     loader = importlib.machinery.SourceFileLoader(path[-1], os.path.join(TOP, *path))

@@ -1,5 +1,7 @@
 -- The items of lanes whose flag is set, lane by lane.
-use Rattle.std.proofs.Common.{◌≡◌, ℕ, zero, suc, ◌+◌, ◌<◌, ◌≤◌, ℤ, Bool, true, false, List, [], ◌∷◌, ◌++◌, length, map, take, Option, Some, Ok, Err, if◌then◌else◌, refl, sym, ap, subst, ◌∙◌, arith, add-one, append_assoc, length-append}
+use Rattle.std.proofs.Common.{◌≡◌, ℕ, zero, suc, ◌+◌, ◌<◌, ◌≤◌, ℤ, Bool, true, false, List, [], ◌∷◌, ◌++◌, length, map}
+use Rattle.std.proofs.Common.{take, Option, Some, Ok, Err, if◌then◌else◌, refl, sym, ap, subst, ◌∙◌, arith, add-one}
+use Rattle.std.proofs.Common.{append_assoc, length-append}
 use Rattle.std.proofs.lemmas.List.{append-nil, get_or_at, get_or-take, length-take-le, map-append}
 use Rattle.std.proofs.Math.Seq.{take-append_seam}
 use Rattle.std.proofs.lemmas.Option.{slice_get-get_or}
@@ -21,7 +23,8 @@ item_if b x = if b then x ∷ [] else []
 -- an item of a list, after those before it
 at_seam : (xs ys : List Item) (y : Item) → slice_get (xs ++ y ∷ ys) (length xs) ≡ Some y
 at_seam xs ys y =
-    slice_get-get_or (xs ++ y ∷ ys) (length xs) y (omega (arith, length-append xs (y ∷ ys))) ∙ ap (λ (x : Item). Some x) (get_or_at xs y ys y (length xs) refl)
+    slice_get-get_or (xs ++ y ∷ ys) (length xs) y (omega (arith, length-append xs (y ∷ ys)))
+    ∙ ap (λ (x : Item). Some x) (get_or_at xs y ys y (length xs) refl)
 
 module _ (p : ℤ → Bool) (start : Option ℕ) (origins : List ℕ) (values flags : List ℤ) where
   -- the items of the first n lanes
@@ -36,14 +39,19 @@ module _ (p : ℤ → Bool) (start : Option ℕ) (origins : List ℕ) (values fl
   front_unset n unset = rw (add-one, unset) (append-nil (front n))
 
   -- all items are those before a lane that is set, its own, and those after it
-  around : (n : ℕ) → n < length flags → p (at flags n) ≡ true → (rest : List Item) × (flagged_items p start origins values flags ≡ front n ++ item_at start origins values n ∷ rest)
+  around : (n : ℕ) → n < length flags → p (at flags n) ≡ true
+      → (rest : List Item) × (flagged_items p start origins values flags
+      ≡ front n ++ item_at start origins values n ∷ rest)
   around n within set =
       let x = item_at start origins values n in
-      let all = later (n + 1) (length flags) (λ k. if p (at flags k) then item_at start origins values k ∷ [] else []) (omega arith) in
+      let all = later (n + 1) (length flags) (λ k. if p (at flags k) then item_at start origins values k ∷ [] else [])
+      (omega arith) in
       (all.0, all.1 ∙ ap (λ (ys : List Item). ys ++ all.0) (front_set n set) ∙ append_assoc (front n) (x ∷ []) all.0)
 
   module _ {S : Type 0} (h : S → List Item → Type 0) (xs : List Item) (n : ℕ) (s : S) where
-    pub flagged_enough : n < length flags → p (at flags n) ≡ true → h s ((xs ++ front n) ++ item_at start origins values n ∷ []) → IsFed h xs (trace (flagged_items p start origins values flags) end.Done) (Ok fed.Enough) s
+    pub flagged_enough : n < length flags → p (at flags n) ≡ true
+        → h s ((xs ++ front n) ++ item_at start origins values n ∷ [])
+        → IsFed h xs (trace (flagged_items p start origins values flags) end.Done) (Ok fed.Enough) s
     flagged_enough within set took =
         let x = item_at start origins values n in
         let all = around n within set in
@@ -53,7 +61,8 @@ module _ (p : ℤ → Bool) (start : Option ℕ) (origins : List ℕ) (values fl
         subst (λ (ys : List Item). IsFed h xs (trace ys end.Done) (Ok fed.Enough) s) (sym all.1)
         (IsFed_enough h xs (trace whole end.Done) (length (front n)) x s (at_seam (front n) all.0 x) given)
 
-    pub flagged_refused : n < length flags → p (at flags n) ≡ true → (e : AllocError) → h s (xs ++ front n) → IsFed h xs (trace (flagged_items p start origins values flags) end.Done) (Err e) s
+    pub flagged_refused : n < length flags → p (at flags n) ≡ true → (e : AllocError) → h s (xs ++ front n)
+        → IsFed h xs (trace (flagged_items p start origins values flags) end.Done) (Err e) s
     flagged_refused within set e took =
         let x = item_at start origins values n in
         let all = around n within set in
@@ -67,11 +76,16 @@ module _ (p : ℤ → Bool) (start : Option ℕ) (origins : List ℕ) (values fl
   front_values : (n : ℕ) → map (λ (x : Item). x.value) (front n) ≡ flagged_values p values flags n
   front_values zero = refl
   front_values (suc n) = by_flag (p (at flags n)) (front_values n) where
-    by_flag : (b : Bool) → map (λ (x : Item). x.value) (front n) ≡ flagged_values p values flags n → map (λ (x : Item). x.value) (front n ++ item_if b (item_at start origins values n)) ≡ flagged_values p values flags n ++ (if b then at values n ∷ [] else [])
-    by_flag true before = map-append (λ (x : Item). x.value) (front n) (item_at start origins values n ∷ []) ∙ ap (λ (vs : List ℤ). vs ++ at values n ∷ []) before
-    by_flag false before = ap (λ (ys : List Item). map (λ (x : Item). x.value) ys) (append-nil (front n)) ∙ before ∙ sym (append-nil (flagged_values p values flags n))
+    by_flag : (b : Bool) → map (λ (x : Item). x.value) (front n) ≡ flagged_values p values flags n
+        → map (λ (x : Item). x.value) (front n ++ item_if b (item_at start origins values n))
+        ≡ flagged_values p values flags n ++ (if b then at values n ∷ [] else [])
+    by_flag true before = map-append (λ (x : Item). x.value) (front n) (item_at start origins values n ∷ [])
+        ∙ ap (λ (vs : List ℤ). vs ++ at values n ∷ []) before
+    by_flag false before = ap (λ (ys : List Item). map (λ (x : Item). x.value) ys) (append-nil (front n)) ∙ before
+        ∙ sym (append-nil (flagged_values p values flags n))
 
-  pub values_flagged : map (λ (x : Item). x.value) (flagged_items p start origins values flags) ≡ flagged_values p values flags (length flags)
+  pub values_flagged : map (λ (x : Item). x.value) (flagged_items p start origins values flags)
+      ≡ flagged_values p values flags (length flags)
   values_flagged = front_values (length flags)
 
 pub set_flag : (b : Bool) → is_set (flag_of b) ≡ b
@@ -79,8 +93,12 @@ set_flag true = refl
 set_flag false = refl
 
 -- flags that were cut to the lanes that go on
-pub flags_cut : (p : ℤ → Bool) (start : Option ℕ) (origins : List ℕ) (values flags : List ℤ) (n : ℕ) → n ≤ length flags → flagged_items p start origins values (take n flags) ≡ gathered n (λ k. if is_set (flag_of (p (at flags k))) then item_at start origins values k ∷ [] else [])
+pub flags_cut : (p : ℤ → Bool) (start : Option ℕ) (origins : List ℕ) (values flags : List ℤ) (n : ℕ) → n ≤ length flags
+    → flagged_items p start origins values (take n flags)
+    ≡ gathered n (λ k. if is_set (flag_of (p (at flags k))) then item_at start origins values k ∷ [] else [])
 flags_cut p start origins values flags n within =
     let f : ℕ → List Item = λ k. item_if (p (at (take n flags) k)) (item_at start origins values k) in
     let g : ℕ → List Item = λ k. item_if (is_set (flag_of (p (at flags k)))) (item_at start origins values k) in
-    ap (λ (m : ℕ). gathered m f) (length-take-le n flags within) ∙ gathered_same n f g (λ k below. ap (λ (b : Bool). item_if b (item_at start origins values k)) (ap p (get_or-take n flags k _ below) ∙ sym (set_flag (p (at flags k)))))
+    ap (λ (m : ℕ). gathered m f) (length-take-le n flags within)
+    ∙ gathered_same n f g (λ k below. ap (λ (b : Bool). item_if b (item_at start origins values k))
+    (ap p (get_or-take n flags k _ below) ∙ sym (set_flag (p (at flags k)))))

@@ -1,5 +1,7 @@
 -- The items of lanes, by their position.
-use Rattle.std.proofs.Common.{◌≡◌, ℕ, ℤ, pos, map, add-one, zero, suc, ◌+◌, ◌<◌, ◌≤◌, List, [], ◌∷◌, ◌++◌, length, get_or, drop, take, Option, Some, None, refl, sym, ap, ◌∙◌, append_assoc, arith, length-append, add-zero}
+use Rattle.std.proofs.Common.{◌≡◌, ℕ, ℤ, pos, map, add-one, zero, suc, ◌+◌, ◌<◌, ◌≤◌, List, [], ◌∷◌, ◌++◌, length}
+use Rattle.std.proofs.Common.{get_or, drop, take, Option, Some, None, refl, sym, ap, ◌∙◌, append_assoc, arith}
+use Rattle.std.proofs.Common.{length-append, add-zero}
 use Rattle.std.proofs.lemmas.List.{append-nil, get_or_append_left, get_or_at, map-append, take_all, take_more}
 use Rattle.std.proofs.lemmas.Option.{slice_get_within, get_or_from_slice_get, slice_get-get_or}
 use Rattle.std.specs.List.{slice_get}
@@ -25,26 +27,32 @@ lane_of (suc n) k g d below =
 
 -- the item at a position
 pub lane_at : (n k : ℕ) (g : ℕ → Item) → k < n → slice_get (lanes n g) k ≡ Some (g k)
-lane_at n k g below = slice_get-get_or (lanes n g) k (g k) (omega (arith, length_lanes n g)) ∙ ap Some (lane_of n k g (g k) below)
+lane_at n k g below = slice_get-get_or (lanes n g) k (g k) (omega (arith, length_lanes n g))
+    ∙ ap Some (lane_of n k g (g k) below)
 
 -- items from a position on
-pub lanes_taken : (items : List Item) (p n : ℕ) (g : ℕ → Item) → ((k : ℕ) → k < n → slice_get items (p + k) ≡ Some (g k)) → take (p + n) items ≡ take p items ++ lanes n g
+pub lanes_taken : (items : List Item) (p n : ℕ) (g : ℕ → Item)
+    → ((k : ℕ) → k < n → slice_get items (p + k) ≡ Some (g k)) → take (p + n) items ≡ take p items ++ lanes n g
 lanes_taken items p zero g here = ap (λ (m : ℕ). take m items) (add-zero p) ∙ sym (append-nil (take p items))
 lanes_taken items p (suc n) g here =
     let on : p + suc n ≡ p + n + 1 = omega arith in
     let last = here n (omega arith) in
     let one = take_more items (p + n) (g n) (slice_get_within items (p + n) (g n) last) in
     let before = lanes_taken items p n g (λ k below. here k (omega arith)) in
-    ap (λ (m : ℕ). take m items) on ∙ one ∙ rw (before, get_or_from_slice_get items (p + n) (g n) (g n) last) (append_assoc (take p items) (lanes n g) (g n ∷ []))
+    ap (λ (m : ℕ). take m items) on ∙ one
+    ∙ rw (before, get_or_from_slice_get items (p + n) (g n) (g n) last)
+    (append_assoc (take p items) (lanes n g) (g n ∷ []))
 
 -- items up to a position, and some after it
 pub taken_more : (items : List Item) (p n : ℕ) → take (p + n) items ≡ take p items ++ take n (drop p items)
 taken_more items zero n = let on : 0 + n ≡ n = omega arith in ap (λ (m : ℕ). take m items) on
 taken_more [] (suc p) n = take_all (suc p + n) [] (omega arith) ∙ sym (take_all n [] (omega arith))
-taken_more (x ∷ xs) (suc p) n = let on : suc p + n ≡ suc (p + n) = omega arith in ap (λ (m : ℕ). take m (x ∷ xs)) on ∙ ap (λ (ys : List Item). x ∷ ys) (taken_more xs p n)
+taken_more (x ∷ xs) (suc p) n = let on : suc p + n ≡ suc (p + n) = omega arith in
+    ap (λ (m : ℕ). take m (x ∷ xs)) on ∙ ap (λ (ys : List Item). x ∷ ys) (taken_more xs p n)
 
 -- a position of an item is a live lane
-pub lane_inside : (live k : ℕ) (g : ℕ → Item) (e : End) (t : Trace) → trace (lanes live g) e ≡ t → k < length t.items → k < live
+pub lane_inside : (live k : ℕ) (g : ℕ → Item) (e : End) (t : Trace) → trace (lanes live g) e ≡ t → k < length t.items
+    → k < live
 lane_inside live k g e t seen below =
     let same : length (lanes live g) ≡ length t.items = ap (λ (u : Trace). length u.items) seen in
     omega (arith, length_lanes live g, same, below)
@@ -58,17 +66,23 @@ pub lanes_add : (a b : ℕ) (g : ℕ → Item) → lanes (a + b) g ≡ lanes a g
 lanes_add a zero g = ap (λ (m : ℕ). lanes m g) (add-zero a) ∙ sym (append-nil (lanes a g))
 lanes_add a (suc b) g =
     let on : a + suc b ≡ suc (a + b) = omega arith in
-    ap (λ (m : ℕ). lanes m g) on ∙ ap (λ (xs : List Item). xs ++ g (a + b) ∷ []) (lanes_add a b g) ∙ append_assoc (lanes a g) (lanes b (λ k. g (a + k))) (g (a + b) ∷ [])
+    ap (λ (m : ℕ). lanes m g) on ∙ ap (λ (xs : List Item). xs ++ g (a + b) ∷ []) (lanes_add a b g)
+    ∙ append_assoc (lanes a g) (lanes b (λ k. g (a + k))) (g (a + b) ∷ [])
 
 -- the values of lanes
-pub lane_values : (n : ℕ) (start : Option ℕ) (origins : List ℕ) (values : List ℤ) → n ≤ length values → map (λ (x : Item). x.value) (lanes n (item_at start origins values)) ≡ take n values
+pub lane_values : (n : ℕ) (start : Option ℕ) (origins : List ℕ) (values : List ℤ) → n ≤ length values
+    → map (λ (x : Item). x.value) (lanes n (item_at start origins values)) ≡ take n values
 lane_values zero start origins values within = refl
 lane_values (suc n) start origins values within =
     let g = item_at start origins values in
-    let more : take (n + 1) values ≡ take n values ++ get_or values n (pos 0) ∷ [] = take_more values n (pos 0) (omega arith) in
-    map-append (λ (x : Item). x.value) (lanes n g) (g n ∷ []) ∙ ap (λ (vs : List ℤ). vs ++ get_or values n (pos 0) ∷ []) (lane_values n start origins values (omega arith)) ∙ sym more ∙ ap (λ (m : ℕ). take m values) (add-one n)
+    let more : take (n + 1) values ≡ take n values ++ get_or values n (pos 0) ∷ [] =
+    take_more values n (pos 0) (omega arith) in
+    map-append (λ (x : Item). x.value) (lanes n g) (g n ∷ [])
+    ∙ ap (λ (vs : List ℤ). vs ++ get_or values n (pos 0) ∷ []) (lane_values n start origins values (omega arith))
+    ∙ sym more ∙ ap (λ (m : ℕ). take m values) (add-one n)
 
 -- the place of a lane depends on what is listed for it alone
-pub same_place : (start : Option ℕ) (xs ys : List ℕ) (k : ℕ) → get_or xs k 0 ≡ get_or ys k 0 → origin_at start xs k ≡ origin_at start ys k
+pub same_place : (start : Option ℕ) (xs ys : List ℕ) (k : ℕ) → get_or xs k 0 ≡ get_or ys k 0
+    → origin_at start xs k ≡ origin_at start ys k
 same_place None xs ys k same = same
 same_place (Some first) xs ys k same = refl

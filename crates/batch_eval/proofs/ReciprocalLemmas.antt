@@ -1,10 +1,14 @@
 -- Division by multiplication: the factor is a power of two over the divisor, rounded up.
-use Rattle.std.proofs.Common.{◌≡◌, ℕ, zero, suc, ◌+◌, ◌-◌, ◌*◌, ◌/◌, ◌%◌, ◌<◌, ◌≤◌, ◌^◌, ap, sym, arith, refl, ◌∙◌, ℤ, pos, negsuc, FitsSigned, of_z, to_z, w64}
+use Rattle.std.proofs.Common.{◌≡◌, ℕ, zero, suc, ◌+◌, ◌-◌, ◌*◌, ◌/◌, ◌%◌, ◌<◌, ◌≤◌, ◌^◌, ap, sym, arith, refl, ◌∙◌, ℤ}
+use Rattle.std.proofs.Common.{pos, negsuc, FitsSigned, of_z, to_z, w64}
 use Rattle.std.specs.Int.{cast_unsigned}
 use Rattle.std.specs.Prelude.{false, int_rem, unsigned_abs, ◌≤ℤ◌}
 use Rattle.std.specs.Ordering.{int_eq}
 use Rattle.std.proofs.lemmas.Grind.{common_steps}
-use Rattle.std.proofs.Math.Nat.{add-mul-mod_self_right, div-div-eq-div-mul, div-lt_iff_lt-mul, div-mul-le_self, dvd-mul_right, le-div_iff_mul-le, lt-div-mul-add, lt_of_mul-lt-mul_right, mod-eq_of_lt, mod-le, mod-lt, mod-mod_of_dvd, mul-add-div_right, mul-le-mul, mul-le-mul_left, mul-le-mul_right}
+use Rattle.std.proofs.Math.Nat.{add-mul-mod_self_right, div-div-eq-div-mul, div-lt_iff_lt-mul, div-mul-le_self}
+use Rattle.std.proofs.Math.Nat.{dvd-mul_right, le-div_iff_mul-le, lt-div-mul-add, lt_of_mul-lt-mul_right, mod-eq_of_lt}
+use Rattle.std.proofs.Math.Nat.{mod-le, mod-lt, mod-mod_of_dvd, mul-add-div_right, mul-le-mul, mul-le-mul_left}
+use Rattle.std.proofs.Math.Nat.{mul-le-mul_right}
 use Rattle.std.proofs.lemmas.Int.{int_wrap_fits, ints, to_z-of_z}
 use Rattle.std.proofs.lemmas.Bool.{cases_lt}
 use Rattle.std.proofs.lemmas.Nat.{div-add-mod', pow_pos}
@@ -38,14 +42,17 @@ product_over n e a m above reach within small =
     let high : n < q * suc e + suc e = lt-div-mul-add {a = n} {b = suc e} (omega arith) in
     let next : n + 1 ≤ q * suc e + suc e = omega (arith, high) in
     let from_below : q * a ≤ n * m = omega (arith, mul-le-mul_left q reach, mul-le-mul_right m low) in
-    let from_above : n * m < (q + 1) * a = lt_of_mul-lt-mul_right (suc e) {m = n * m} {n = (q + 1) * a} (omega (arith, mul-le-mul_left n within, small, mul-le-mul_right a next)) in
+    let from_above : n * m < (q + 1) * a =
+    lt_of_mul-lt-mul_right (suc e) {m = n * m} {n = (q + 1) * a}
+    (omega (arith, mul-le-mul_left n within, small, mul-le-mul_right a next)) in
     let least : q ≤ n * m / a = (le-div_iff_mul-le {k = a} {x = q} {y = n * m} above).1 from_below in
     let most : n * m / a < q + 1 = (div-lt_iff_lt-mul {k = a} {x = n * m} {y = q + 1} above).1 from_above in
     omega (arith, least, most)
 
 -- the quotient by e + 1 of magnitudes up to h, where w is twice that, for a power p of two that is at most e and more
 -- than half of it
-divides_by : (w h e p n : ℕ) → w ≡ 2 * h → 0 < h → p ≤ e → e < 2 * p → n ≤ h → n * factor_of (suc e) (w * p) / w / p ≡ n / suc e
+divides_by : (w h e p n : ℕ) → w ≡ 2 * h → 0 < h → p ≤ e → e < 2 * p → n ≤ h
+    → n * factor_of (suc e) (w * p) / w / p ≡ n / suc e
 divides_by w h e p n twice some_h low high within =
     let a = w * p in
     let some_p : 1 ≤ p = omega (arith, high) in
@@ -63,34 +70,46 @@ factor_small w e p low some_p some_w below =
     let a = w * p in
     let some : 0 < a = omega (arith, mul-le-mul_left w some_p, some_w) in
     let least : w * p ≤ w * e = mul-le-mul_left w low in
-    lt_of_mul-lt-mul_right (suc e) {m = factor_of (suc e) a} {n = w} (omega (arith, factor_within (suc e) a some, least, below))
+    lt_of_mul-lt-mul_right (suc e) {m = factor_of (suc e) a} {n = w}
+    (omega (arith, factor_within (suc e) a some, least, below))
 
 pub factor_fits : (w m s : ℕ) → 0 < w → 1 < m → m ≤ w → 2 ^ s ≤ m - 1 → factor_of m (w * 2 ^ s) < w
 factor_fits w zero s some above within low = absurd (omega (arith, above))
-factor_fits w (suc e) s some above within low = factor_small w e (2 ^ s) (omega (arith, low)) (pow_pos s) some (omega (arith, within))
+factor_fits w (suc e) s some above within low =
+    factor_small w e (2 ^ s) (omega (arith, low)) (pow_pos s) some (omega (arith, within))
 
-pub divides_bits : (bits : ℕ) (y : ℤ) (m s f : ℕ) → 2 ^ bits ≡ 2 * 2 ^ (bits - 1) → FitsSigned w64 y → m ≡ unsigned_abs y → 1 < m → 2 ^ s ≤ m - 1 → m - 1 < 2 * 2 ^ s → s < bits → f ≡ factor_of m (2 ^ bits * 2 ^ s) → Divides bits (to_z w64 (of_z w64 y)) f s
+pub divides_bits : (bits : ℕ) (y : ℤ) (m s f : ℕ) → 2 ^ bits ≡ 2 * 2 ^ (bits - 1) → FitsSigned w64 y
+    → m ≡ unsigned_abs y → 1 < m → 2 ^ s ≤ m - 1 → m - 1 < 2 * 2 ^ s → s < bits → f ≡ factor_of m (2 ^ bits * 2 ^ s)
+    → Divides bits (to_z w64 (of_z w64 y)) f s
 divides_bits bits y m s f twice fits size above low high bound is =
     let whole : suc (m - 1) ≡ m = omega (arith, above) in
     let same : unsigned_abs (to_z w64 (of_z w64 y)) ≡ unsigned_abs y = ap unsigned_abs (to_z-of_z w64 y fits) in
     record {
-      divides = λ n within. ap (λ k. n * k / 2 ^ bits / 2 ^ s) is ∙ ap (λ d. n * factor_of d (2 ^ bits * 2 ^ s) / 2 ^ bits / 2 ^ s) (sym whole) ∙ divides_by (2 ^ bits) (2 ^ (bits - 1)) (m - 1) (2 ^ s) n twice (pow_pos (bits - 1)) low high within ∙ ap (λ d. n / d) (whole ∙ size ∙ sym same);
+      divides = λ n within. ap (λ k. n * k / 2 ^ bits / 2 ^ s) is
+          ∙ ap (λ d. n * factor_of d (2 ^ bits * 2 ^ s) / 2 ^ bits / 2 ^ s) (sym whole)
+          ∙ divides_by (2 ^ bits) (2 ^ (bits - 1)) (m - 1) (2 ^ s) n twice (pow_pos (bits - 1)) low high within
+          ∙ ap (λ d. n / d) (whole ∙ size ∙ sym same);
       shift = bound;
       divisor = omega (arith, above, size, same);
     }
 
 -- the upper part of a product, over a base b, by the halves of its factors
-pub halves_above : (b high low h l across : ℕ) → 0 < b → across ≡ high * l + low * l / b → high * h + across / b + (low * h + across % b) / b ≡ (high * b + low) * (h * b + l) / (b * b)
+pub halves_above : (b high low h l across : ℕ) → 0 < b → across ≡ high * l + low * l / b
+    → high * h + across / b + (low * h + across % b) / b ≡ (high * b + low) * (h * b + l) / (b * b)
 halves_above b high low h l across some is =
     let x = high * l + low * h in
     let whole : (high * b + low) * (h * b + l) ≡ (high * h * b + x) * b + low * l = omega arith in
-    let above : ((high * h * b + x) * b + low * l) / b ≡ high * h * b + x + low * l / b = mul-add-div_right some (high * h * b + x) (low * l) in
+    let above : ((high * h * b + x) * b + low * l) / b ≡ high * h * b + x + low * l / b =
+    mul-add-div_right some (high * h * b + x) (low * l) in
     let crossed : across / b * b + across % b ≡ across = div-add-mod' across b in
-    let again : high * h * b + x + low * l / b ≡ (high * h + across / b) * b + (low * h + across % b) = omega (arith, is, crossed) in
-    sym (ap (λ n. n / (b * b)) whole ∙ sym (div-div-eq-div-mul ((high * h * b + x) * b + low * l) b b) ∙ ap (λ n. n / b) (above ∙ again) ∙ mul-add-div_right some (high * h + across / b) (low * h + across % b))
+    let again : high * h * b + x + low * l / b ≡ (high * h + across / b) * b + (low * h + across % b) =
+    omega (arith, is, crossed) in
+    sym (ap (λ n. n / (b * b)) whole ∙ sym (div-div-eq-div-mul ((high * h * b + x) * b + low * l) b b)
+    ∙ ap (λ n. n / b) (above ∙ again) ∙ mul-add-div_right some (high * h + across / b) (low * h + across % b))
 
 -- what is left of n after q times d, if that is less than d, by the rests of n and q for a base of at least d
-pub short_rest_is : (b n q d : ℕ) → 0 < b → d ≤ b → q * d ≤ n → n < q * d + d → (n % b + (b * b - q % b * d)) % (b * b) % b ≡ n - q * d
+pub short_rest_is : (b n q d : ℕ) → 0 < b → d ≤ b → q * d ≤ n → n < q * d + d
+    → (n % b + (b * b - q % b * d)) % (b * b) % b ≡ n - q * d
 short_rest_is b n q d some short least most =
     let taken = q % b * d in
     let x = n % b + (b * b - taken) in
@@ -99,11 +118,13 @@ short_rest_is b n q d some short least most =
     let n_whole : n / b * b + n % b ≡ n = div-add-mod' n b in
     let q_whole : q * d ≡ q / b * d * b + taken = ap (λ k. k * d) (sym (div-add-mod' q b)) ∙ omega arith in
     let same : x + n / b * b ≡ n - q * d + (q / b * d + b) * b = omega (arith, n_whole, q_whole, least, fits) in
-    mod-mod_of_dvd b x (dvd-mul_right b b) ∙ sym (add-mul-mod_self_right x (n / b) b) ∙ ap (λ k. k % b) same ∙ add-mul-mod_self_right (n - q * d) (q / b * d + b) b ∙ mod-eq_of_lt (omega (arith, least, most, short))
+    mod-mod_of_dvd b x (dvd-mul_right b b) ∙ sym (add-mul-mod_self_right x (n / b) b) ∙ ap (λ k. k % b) same
+    ∙ add-mul-mod_self_right (n - q * d) (q / b * d + b) b ∙ mod-eq_of_lt (omega (arith, least, most, short))
 
 -- a power of two below 2^31 has an exponent below 31
 pub exponent_short : (s m : ℕ) → 2 ^ s ≤ m - 1 → m ≤ 2 ^ 31 → 1 < m → s < 31
-exponent_short s m low short above = ⊎_elim (λ less. less) (λ from. absurd (omega (arith, low, short, above, pow_mono {i = 31} {j = s} from))) (cases_lt s 31)
+exponent_short s m low short above = ⊎_elim (λ less. less)
+    (λ from. absurd (omega (arith, low, short, above, pow_mono {i = 31} {j = s} from))) (cases_lt s 31)
 
 pub magnitude_within : (y : ℤ) (m : ℕ) → FitsSigned w64 y → m ≡ unsigned_abs y → m ≤ 2 ^ 63
 magnitude_within (pos a) m fits is = omega (arith, fits.sfits, is)
@@ -140,7 +161,8 @@ signed_fits (negsuc a) zero fits within = record { sfits = omega arith }
 signed_fits (negsuc a) (suc n) fits within = record { sfits = omega (arith, fits.sfits, within) }
 
 -- a rest of magnitudes with the sign of the dividend is the remainder
-pub rest_is : (x y r : ℤ) (m : ℕ) → FitsSigned w64 x → m ≡ unsigned_abs x % unsigned_abs y → r ≡ wrap (with_sign_of x m) → r ≡ int_rem x y
+pub rest_is : (x y r : ℤ) (m : ℕ) → FitsSigned w64 x → m ≡ unsigned_abs x % unsigned_abs y → r ≡ wrap (with_sign_of x m)
+    → r ≡ int_rem x y
 rest_is x y r m fits size is =
     let within : m ≤ unsigned_abs x = omega (arith, size, mod-le (unsigned_abs x) (unsigned_abs y)) in
     is ∙ int_wrap_fits w64 (with_sign_of x m) (signed_fits x m fits within) ∙ ap (with_sign_of x) size ∙ signed_rest x y

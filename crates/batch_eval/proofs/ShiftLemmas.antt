@@ -1,5 +1,6 @@
 -- Comparisons with a number, of integers after the shift that makes it the least one.
-use Rattle.std.proofs.Common.{◌≡◌, ◌∙◌, ◌^◌, ℤ, pos, negsuc, ◌+ℤ◌, ◌-ℤ◌, ◌*ℤ◌, ◌≤ℤ◌, ◌<ℤ◌, Bool, true, false, not, FitsSigned, ap, arith, if◌then◌else◌, rules, subst, sym, w64}
+use Rattle.std.proofs.Common.{◌≡◌, ◌∙◌, ◌^◌, ℤ, pos, negsuc, ◌+ℤ◌, ◌-ℤ◌, ◌*ℤ◌, ◌≤ℤ◌, ◌<ℤ◌, Bool, true, false, not}
+use Rattle.std.proofs.Common.{FitsSigned, ap, arith, if◌then◌else◌, rules, subst, sym, w64}
 use Rattle.std.proofs.lemmas.Int.{by_lt_z, ints}
 use Rattle.std.specs.Int.Signed.{le_z}
 use Rattle.std.specs.Ordering.{int_eq}
@@ -33,8 +34,10 @@ module _ (z n : ℤ) (f : FitsSigned w64 z) (g : FitsSigned w64 n) where
 
   least : wrap (z -ℤ to_least n) ≡ from_least n z
   least = by_lt_z n (pos 0)
-      (λ o. ap (λ s. wrap (z -ℤ s)) (wraps_to (n +ℤ pos (2 ^ 63)) (pos 0) _ (omega (arith, ints)) (negative o)) ∙ by_sign true)
-      (λ o. ap (λ s. wrap (z -ℤ s)) (wraps_to (n +ℤ pos (2 ^ 63)) (negsuc 0) _ (omega (arith, ints)) (other o)) ∙ by_sign false)
+      (λ o. ap (λ s. wrap (z -ℤ s)) (wraps_to (n +ℤ pos (2 ^ 63)) (pos 0) _ (omega (arith, ints)) (negative o))
+      ∙ by_sign true)
+      (λ o. ap (λ s. wrap (z -ℤ s)) (wraps_to (n +ℤ pos (2 ^ 63)) (negsuc 0) _ (omega (arith, ints)) (other o))
+      ∙ by_sign false)
     where
       negative : n <ℤ pos 0 → FitsSigned w64 (n +ℤ pos (2 ^ 63))
       negative o = search rules

@@ -6,7 +6,8 @@ use Rattle.batch_eval.specs.declared.reached.Reached.{Reached}
 use Rattle.batch_eval.specs.Lanes.{StopsAt, Reaches, later_fault, after}
 
 -- facts of a function hold of another one that agrees with it on the lanes
-pub Reaches_same : (f g : ℕ → Result ℤ FaultKind) (c : ℕ → ℤ) (n : ℕ) (r : Reached) → ((k : ℕ) → k < n → f k ≡ g k) → Reaches f c n r → Reaches g c n r
+pub Reaches_same : (f g : ℕ → Result ℤ FaultKind) (c : ℕ → ℤ) (n : ℕ) (r : Reached) → ((k : ℕ) → k < n → f k ≡ g k)
+    → Reaches f c n r → Reaches g c n r
 Reaches_same f g c n r same h =
     record {
       within = h.within;
@@ -19,7 +20,9 @@ Reaches_same f g c n r same h =
     stop_same live (Some kind) s = (s.0, sym (same live s.0) ∙ s.1)
 
 -- a function that has a value where another one has one, and the faults of that one
-pub Reaches_image : (f g : ℕ → Result ℤ FaultKind) (c d : ℕ → ℤ) (n : ℕ) (r : Reached) → ((k : ℕ) → f k ≡ Ok (c k) → g k ≡ Ok (d k)) → ((k : ℕ) (kind : FaultKind) → f k ≡ Err kind → g k ≡ Err kind) → Reaches f c n r → Reaches g d n r
+pub Reaches_image : (f g : ℕ → Result ℤ FaultKind) (c d : ℕ → ℤ) (n : ℕ) (r : Reached)
+    → ((k : ℕ) → f k ≡ Ok (c k) → g k ≡ Ok (d k)) → ((k : ℕ) (kind : FaultKind) → f k ≡ Err kind → g k ≡ Err kind)
+    → Reaches f c n r → Reaches g d n r
 Reaches_image f g c d n r ok err h =
     record {
       within = h.within;
@@ -38,13 +41,18 @@ module _ (fa : ℕ → Result ℤ FaultKind) (g : ℕ → ℤ → Result ℤ Fau
   value_on : (k : ℕ) (v : Result ℤ FaultKind) → fa k ≡ Ok (c k) → g k (c k) ≡ v → both k ≡ v
   value_on k v a b = ap (λ (r : Result ℤ FaultKind). on r (g k)) a ∙ b
 
-  stop_on : (n live one : ℕ) (first second : Option FaultKind) → StopsAt fa n one first → ((k : ℕ) → k < one → fa k ≡ Ok (c k)) → one ≤ n → StopsAt (λ k. g k (c k)) one live second → StopsAt both n live (later_fault second first)
-  stop_on n live one first (Some kind) s values within t = (omega (arith, t.0), value_on live (Err kind) (values live t.0) t.1)
+  stop_on : (n live one : ℕ) (first second : Option FaultKind) → StopsAt fa n one first
+      → ((k : ℕ) → k < one → fa k ≡ Ok (c k)) → one ≤ n → StopsAt (λ k. g k (c k)) one live second
+      → StopsAt both n live (later_fault second first)
+  stop_on n live one first (Some kind) s values within t =
+      (omega (arith, t.0), value_on live (Err kind) (values live t.0) t.1)
   stop_on n live one None None s values within t = t ∙ s
-  stop_on n live one (Some kind) None s values within t = subst (λ (l : ℕ). StopsAt both n l (Some kind)) (sym t) (s.0, ap (λ (r : Result ℤ FaultKind). on r (g one)) s.1)
+  stop_on n live one (Some kind) None s values within t =
+      subst (λ (l : ℕ). StopsAt both n l (Some kind)) (sym t) (s.0, ap (λ (r : Result ℤ FaultKind). on r (g one)) s.1)
 
   -- a step that goes on with the values of an earlier one
-  pub Reaches_on : (out : ℕ → ℤ) (n : ℕ) (r s : Reached) → Reaches fa c n r → Reaches (λ k. g k (c k)) out r.live s → Reaches both out n (after s r)
+  pub Reaches_on : (out : ℕ → ℤ) (n : ℕ) (r s : Reached) → Reaches fa c n r → Reaches (λ k. g k (c k)) out r.live s
+      → Reaches both out n (after s r)
   Reaches_on out n r s a b =
       record {
         within = let w = a.within in let v = b.within in omega arith;

@@ -1,5 +1,6 @@
 -- Condition: the walk that a batch of lanes describes.
-use Rattle.std.specs.Prelude.{◌≡◌, ℕ, zero, suc, ◌+◌, ◌<◌, ◌≤◌, ◌^◌, ℤ, pos, ◌+ℤ◌, Bool, true, false, not, List, [], ◌∷◌, ◌++◌, length, slice_index, Option, Some, None, if◌then◌else◌}
+use Rattle.std.specs.Prelude.{◌≡◌, ℕ, zero, suc, ◌+◌, ◌<◌, ◌≤◌, ◌^◌, ℤ, pos, ◌+ℤ◌, Bool, true, false, not, List, []}
+use Rattle.std.specs.Prelude.{◌∷◌, ◌++◌, length, slice_index, Option, Some, None, if◌then◌else◌}
 use Rattle.lambda_values.specs.declared.fault.FaultKind.{FaultKind}
 use Rattle.lambda_values.specs.Operators.{comparison_value}
 use Rattle.lambda_values.specs.Wrap.{wrap}
@@ -69,7 +70,8 @@ holds t z = comparison_value t.comparison (masked t.mask z) t.number
 
 -- the items of lanes whose flag is set, one after the other
 abbrev pub flagged_items : (ℤ → Bool) → Option ℕ → List ℕ → List ℤ → List ℤ → List Item
-flagged_items set start origins values flags = gathered (length flags) (λ k. if set (at flags k) then item_at start origins values k ∷ [] else [])
+flagged_items set start origins values flags =
+    gathered (length flags) (λ k. if set (at flags k) then item_at start origins values k ∷ [] else [])
 
 -- the items whose flag is set, one after the other
 abbrev pub set_items : List ℤ → List Item → List Item
@@ -84,7 +86,8 @@ flagged_walk flags t = trace (set_items flags t.items) t.ending
 -- the values of the first n lanes whose flag is set, one after the other
 abbrev pub flagged_values : (ℤ → Bool) → List ℤ → List ℤ → ℕ → List ℤ
 flagged_values set values flags zero = []
-flagged_values set values flags (suc n) = flagged_values set values flags n ++ (if set (at flags n) then at values n ∷ [] else [])
+flagged_values set values flags (suc n) =
+    flagged_values set values flags n ++ (if set (at flags n) then at values n ∷ [] else [])
 
 -- whether a flag is as it is wanted
 abbrev pub wants : Bool → ℤ → Bool

@@ -40,4 +40,5 @@ operand_value (operand.Flag b) x env = Ok (flag_of b)
 
 -- an operand has one value at two rows
 abbrev pub IsSame : Operand → ℕ → ℕ → Type 0
-IsSame o i j = (v : ℤ) (env : Numbers) → operand_value o (record { origin = i; value = v }) env ≡ operand_value o (record { origin = j; value = v }) env
+IsSame o i j = (v : ℤ) (env : Numbers) → operand_value o (record { origin = i; value = v }) env
+    ≡ operand_value o (record { origin = j; value = v }) env

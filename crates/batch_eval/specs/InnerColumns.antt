@@ -1,5 +1,6 @@
 -- Condition: the registers of the operands of inner streams, and the values that come from them.
-use Rattle.std.specs.Prelude.{◌≡◌, ℕ, zero, suc, ◌+◌, ◌*◌, ◌<◌, ◌≤◌, ℤ, Bool, true, false, List, [], ◌∷◌, ◌++◌, length, get_or, pos, take, Result, Ok, Err}
+use Rattle.std.specs.Prelude.{◌≡◌, ℕ, zero, suc, ◌+◌, ◌*◌, ◌<◌, ◌≤◌, ℤ, Bool, true, false, List, [], ◌∷◌, ◌++◌, length}
+use Rattle.std.specs.Prelude.{get_or, pos, take, Result, Ok, Err}
 use Rattle.lambda_values.specs.declared.fault.FaultKind.{FaultKind}
 use Rattle.lambda_values.specs.Earlier.{Numbers}
 use Rattle.lambda_values.specs.Streams.{Inner, distance, inner_value, range, range_closed, through, up_from, values}
@@ -28,7 +29,9 @@ given (values es) registers k = Ok (row registers k (length es))
 
 -- at each of the first n items the registers hold the operands of the inner stream
 abbrev pub HaveOperands : Inner → Numbers → List Item → ℕ → List ℤ → Type 0
-HaveOperands inner env items n registers = (k : ℕ) → k < n → inner_value inner (get_or items k (record { origin = 0; value = pos 0 })) env ≡ given inner registers k
+HaveOperands inner env items n registers =
+    (k : ℕ) → k < n → inner_value inner (get_or items k (record { origin = 0; value = pos 0 })) env
+    ≡ given inner registers k
 
 -- the values, if they have no fault
 abbrev pub valid_values : Result (List ℤ) FaultKind → List ℤ
@@ -40,11 +43,14 @@ abbrev pub values_at : Inner → List ℤ → ℕ → List ℤ
 values_at inner registers k = valid_values (given inner registers k)
 
 -- the values at n lanes from one on were put after other items
-pub record ArePut (inner : Inner) (registers : List ℤ) (from : ℕ) (place : ℕ → ℕ) (before : List Item) (n next : ℕ) (item : ℕ → Item) : Type 0 where
+pub record ArePut (inner : Inner) (registers : List ℤ) (from : ℕ) (place : ℕ → ℕ) (before : List Item) (n next : ℕ)
+    (item : ℕ → Item) : Type 0 where
   pub valid : (k : ℕ) → k < n → given inner registers (from + k) ≡ Ok (values_at inner registers (from + k))
-  pub put : lanes next item ≡ before ++ gathered n (λ k. at_place (place (from + k)) (values_at inner registers (from + k)))
+  pub put : lanes next item ≡ before ++ gathered n
+      (λ k. at_place (place (from + k)) (values_at inner registers (from + k)))
   pub within : next ≤ 1024
 
 -- what the first q items give without a fault is what the first p of them give, and then this part
 abbrev pub IsMore : (Item → Trace) → List Item → ℕ → ℕ → List Item → Type 0
-IsMore f items p q part = (each f (take p items) end.Done).ending ≡ end.Done → each f (take q items) end.Done ≡ trace ((each f (take p items) end.Done).items ++ part) end.Done
+IsMore f items p q part = (each f (take p items) end.Done).ending ≡ end.Done
+    → each f (take q items) end.Done ≡ trace ((each f (take p items) end.Done).items ++ part) end.Done

@@ -1,6 +1,7 @@
 -- Condition: what registers hold, lane by lane, and how far a step over lanes came.
 use Rattle.std.specs.Int.{w64, cast_unsigned}
-use Rattle.std.specs.Prelude.{◌≡◌, ℕ, ◌<◌, ◌≤◌, ◌^◌, ◌%◌, ℤ, pos, negsuc, Bool, true, false, not, List, length, slice_index_or, Option, Some, None, Result, Ok, Err}
+use Rattle.std.specs.Prelude.{◌≡◌, ℕ, ◌<◌, ◌≤◌, ◌^◌, ◌%◌, ℤ, pos, negsuc, Bool, true, false, not, List, length}
+use Rattle.std.specs.Prelude.{slice_index_or, Option, Some, None, Result, Ok, Err}
 use Rattle.std.specs.Ordering.{int_eq}
 use Rattle.lambda_values.specs.declared.fault.FaultKind.{FaultKind}
 use Rattle.lambda_values.specs.declared.operator.BinaryOperator.TheVariants as binary_operator

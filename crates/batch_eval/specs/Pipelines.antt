@@ -18,4 +18,5 @@ walk_from None flags t = flagged_walk flags t
 
 -- the stages make one item of each: whichever of them are walked over, and however that walk ends
 abbrev pub AreImages : Pipeline → List Item → List Item → Type 0
-AreImages line xs ys = (flags : List ℤ) (e : End) → piped line (trace (set_items flags xs) e) ≡ trace (set_items flags ys) e
+AreImages line xs ys = (flags : List ℤ) (e : End)
+    → piped line (trace (set_items flags xs) e) ≡ trace (set_items flags ys) e

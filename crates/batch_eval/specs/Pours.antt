@@ -12,12 +12,15 @@ use Rattle.batch_eval.specs.Pipelines.{piped}
 
 -- all of these items were taken through the stages, but for the last ones, which wait
 abbrev pub Holds : {S : Type 0} → (S → List Item → Type 0) → Pipeline → List Item → List Item → List Item → S → Type 0
-Holds h line xs whole pending s = (done : List Item) × (whole ≡ done ++ pending) × IsFed h xs (piped line (trace done end.Done)) (Ok fed.More) s
+Holds h line xs whole pending s = (done : List Item) × (whole ≡ done ++ pending)
+    × IsFed h xs (piped line (trace done end.Done)) (Ok fed.More) s
 
 -- all of these items were taken through the stages, but for the last ones, which wait; or the walk was stopped at one
 -- of them
-abbrev pub Poured : {S : Type 0} → (S → List Item → Type 0) → Pipeline → List Item → List Item → Result Fed AllocError → List Item → S → Type 0
+abbrev pub Poured : {S : Type 0} → (S → List Item → Type 0) → Pipeline → List Item → List Item → Result Fed AllocError
+    → List Item → S → Type 0
 Poured h line xs whole (Ok fed.More) pending s = Holds h line xs whole pending s
-Poured h line xs whole (Ok (fed.Fault f)) pending s = IsFed h xs (piped line (trace whole end.Done)) (Ok (fed.Fault f)) s
+Poured h line xs whole (Ok (fed.Fault f)) pending s =
+    IsFed h xs (piped line (trace whole end.Done)) (Ok (fed.Fault f)) s
 Poured h line xs whole (Ok fed.Enough) pending s = IsFed h xs (piped line (trace whole end.Done)) (Ok fed.Enough) s
 Poured h line xs whole (Err e) pending s = IsFed h xs (piped line (trace whole end.Done)) (Err e) s

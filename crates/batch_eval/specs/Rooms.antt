@@ -1,7 +1,8 @@
 -- Condition: expressions that room of some length is enough for; a register takes 1,024 of it.
 use Rattle.std.specs.Prelude.{ℕ, ◌-◌, ◌≤◌, List, [], ◌∷◌}
 use Rattle.lambda_values.specs.declared.expr.LongExpr.{LongExpr, size-LongExpr}
-use Rattle.lambda_values.specs.Term.{Long, number, parameter, reference, cell, row, unary, binary, choose, long_of, Truth, literal, compare, opposite, connect, choose_truth, truth_of}
+use Rattle.lambda_values.specs.Term.{Long, number, parameter, reference, cell, row, unary, binary, choose, long_of}
+use Rattle.lambda_values.specs.Term.{Truth, literal, compare, opposite, connect, choose_truth, truth_of}
 use Rattle.trace.specs.Stages.{AbstractStage, map, filter, flat_map}
 use Rattle.batch_eval.specs.declared.register.Operand.{Operand}
 use Rattle.batch_eval.specs.declared.register.Operand.TheVariants as operand
@@ -24,7 +25,8 @@ abbrev mutual
   FitsTest (compare o a b) room = Fits a room × (1024 ≤ room) × Fits b (room - 1024)
   FitsTest (opposite a) room = FitsTest a room
   FitsTest (connect o a b) room = (4096 ≤ room) × FitsTest a (room - 1024) × FitsTest b (room - 4096)
-  FitsTest (choose_truth c a b) room = (4096 ≤ room) × FitsTest c (room - 1024) × FitsTest a (room - 4096) × FitsTest b (room - 4096)
+  FitsTest (choose_truth c a b) room = (4096 ≤ room) × FitsTest c (room - 1024) × FitsTest a (room - 4096)
+      × FitsTest b (room - 4096)
 
 -- there is room for two operands, the second one evaluated while the first is kept
 abbrev pub FitsBoth : Long → Long → ℕ → Type 0
@@ -36,7 +38,8 @@ FitsOperand (operand.Bool p) room = FitsTest (truth_of p.now) room
 FitsOperand (operand.Flag b) room = Unit {0}
 
 abbrev pub FitsChosen : Truth → Operand → Operand → ℕ → Type 0
-FitsChosen c a b room = (4096 ≤ room) × FitsTest c (room - 1024) × FitsOperand a (room - 4096) × FitsOperand b (room - 4096)
+FitsChosen c a b room = (4096 ≤ room) × FitsTest c (room - 1024) × FitsOperand a (room - 4096)
+    × FitsOperand b (room - 4096)
 
 -- what is left for two operands after the flags that choose between them
 abbrev pub FitsParted : Operand → Operand → ℕ → Type 0

@@ -10,6 +10,8 @@
 //! `refused`, which repeat the clauses of `feed_all` word for word.
 //! Begin with `feeding.rt`, `batch.rt` and `register.rt`, and `specs/Lanes.antt` (`Reaches`).
 //! Not promised: how fast it is (`bench/` measures it), and that memory for registers is there.
+//!
+//! Tested: `batches.rt`, `full_sinks.rt` of `test_low`; runs of the programs in `tests`.
 #![tactic(auto)]
 
 mod batch;

@@ -1,5 +1,6 @@
 -- What digits are worth, one more at a time.
-use Rattle.std.proofs.Common.{◌<◌, ◌≤◌, ◌+◌, ◌*◌, ◌-◌, ℕ, List, [], ◌∷◌, take, drop, length, get_or, arith, ap, fold, take-append-drop}
+use Rattle.std.proofs.Common.{◌<◌, ◌≤◌, ◌+◌, ◌*◌, ◌-◌, ℕ, List, [], ◌∷◌, take, drop, length, get_or, arith, ap, fold}
+use Rattle.std.proofs.Common.{take-append-drop}
 use Rattle.std.proofs.lemmas.List.Sums.{fold-append, fold_more}
 use Rattle.columns.specs.Cell.{digits_value}
 
@@ -14,5 +15,10 @@ digits_value-take ds i =
     let e = ap digits_value (take-append-drop i ds) in
     omega (arith, whole, e, grows (digits_value (take i ds)) (drop i ds))
 
-pub digits_value_more : (ds : List ℕ) (i d : ℕ) → i < length ds → 10 * digits_value (take i ds) + (get_or ds i d - 48) ≤ digits_value ds
-digits_value_more ds i d h = omega (arith, digits_value-take ds (i + 1), fold_more (λ n d. 10 * n + (d - 48)) 0 ds i d h)
+pub digits_value_more : (ds : List ℕ) (i d : ℕ) → i < length ds
+    → 10 * digits_value (take i ds) + (get_or ds i d - 48) ≤ digits_value ds
+digits_value_more ds i d h = omega (
+  arith,
+  digits_value-take ds (i + 1),
+  fold_more (λ n d. 10 * n + (d - 48)) 0 ds i d h,
+)

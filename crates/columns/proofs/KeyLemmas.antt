@@ -1,5 +1,6 @@
 -- Keys of columns, and the looks that they ask for.
-use Rattle.std.proofs.Common.{◌≡◌, ◌<◌, ◌+◌, ◌++◌, ◌∷◌, ◌∙◌, ◌==◌, ◌&&◌, ◌||◌, ◌⊎◌, [], ℕ, zero, suc, List, Bool, true, false, cond, refl, ap, subst, inl, inr, arith, length, take, get_or, nat_eq}
+use Rattle.std.proofs.Common.{◌≡◌, ◌<◌, ◌+◌, ◌++◌, ◌∷◌, ◌∙◌, ◌==◌, ◌&&◌, ◌||◌, ◌⊎◌, [], ℕ, zero, suc, List, Bool, true}
+use Rattle.std.proofs.Common.{false, cond, refl, ap, subst, inl, inr, arith, length, take, get_or, nat_eq}
 use Rattle.std.proofs.lemmas.Bool.Decides.{nat_tests}
 use Rattle.std.proofs.lemmas.List.{take_more}
 use Rattle.std.proofs.lemmas.List.Elements.{filter-append}
@@ -11,7 +12,8 @@ use Rattle.columns.specs.Layouts.{begun_by}
 use Rattle.columns.specs.TableForms.{looks_or}
 
 -- a key with places, byte by byte
-pub key_same : (name key : List ℕ) (p i : ℕ) → (p == 0) ≡ false → i ≡ length name → length key ≡ length name + 2 → (get_or key i 0 == 34) ≡ true → (get_or key (suc i) 0 == p) ≡ true
+pub key_same : (name key : List ℕ) (p i : ℕ) → (p == 0) ≡ false → i ≡ length name → length key ≡ length name + 2
+    → (get_or key i 0 == 34) ≡ true → (get_or key (suc i) 0 == p) ≡ true
     → bytes_eq (key_of name p) key ≡ bytes_eq name (take i key)
 key_same name key zero i some is long quote last = cc some
 key_same [] [] (suc p) i some is long quote last = absurd (omega (arith, long))
@@ -36,7 +38,8 @@ key_other [] (a ∷ b ∷ []) (suc p) (suc i) some is long other = absurd (omega
 key_other (n ∷ name) [] (suc p) i some is long other = absurd (omega (arith, long))
 key_other (n ∷ name) (k ∷ key) (suc p) zero some is long other = absurd (omega (arith, is))
 key_other (n ∷ name) (k ∷ key) (suc p) (suc i) some is long other =
-    ap (λ b. nat_eq n k && b) (key_other name key (suc p) i some (omega (arith, is)) (omega (arith, long)) other) ∙ none (nat_eq n k)
+    ap (λ b. nat_eq n k && b) (key_other name key (suc p) i some (omega (arith, is)) (omega (arith, long)) other)
+    ∙ none (nat_eq n k)
   where
     none : (b : Bool) → (b && false) ≡ false
     none true = refl
@@ -46,19 +49,23 @@ key_other (n ∷ name) (k ∷ key) (suc p) (suc i) some is long other =
 pub filter_more : (test : ℕ → Bool) (xs : List ℕ) (i : ℕ) (b : Bool) → i < length xs → test (get_or xs i 0) ≡ b
     → filter test (take (i + 1) xs) ≡ filter test (take i xs) ++ cond b (get_or xs i 0 ∷ []) []
 filter_more test xs i b h is =
-    ap (filter test) (take_more xs i 0 h) ∙ filter-append test (take i xs) (get_or xs i 0 ∷ []) ∙ ap (λ l. filter test (take i xs) ++ cond l (get_or xs i 0 ∷ []) []) is
+    ap (filter test) (take_more xs i 0 h) ∙ filter-append test (take i xs) (get_or xs i 0 ∷ [])
+    ∙ ap (λ l. filter test (take i xs) ++ cond l (get_or xs i 0 ∷ []) []) is
 
-pub key_equal : (name key : List ℕ) (p : ℕ) → (p == 0) ≡ false → length key ≡ length name + 2 → (get_or key (length name) 0 == 34) ≡ true → (get_or key (length name + 1) 0 == p) ≡ true
+pub key_equal : (name key : List ℕ) (p : ℕ) → (p == 0) ≡ false → length key ≡ length name + 2
+    → (get_or key (length name) 0 == 34) ≡ true → (get_or key (length name + 1) 0 == p) ≡ true
     → bytes_eq (key_of name p) key ≡ bytes_eq name (take (length name) key)
 key_equal name key p some long quote last =
     let one : length name + 1 ≡ suc (length name) = omega arith in
     key_same name key p (length name) some refl long quote (subst (λ i. (get_or key i 0 == p) ≡ true) one last)
 
 pub key_differs : (name key : List ℕ) (p : ℕ) → (p == 0) ≡ false → length key ≡ length name + 2
-    → ((get_or key (length name) 0 == 34) ≡ false) ⊎ ((get_or key (length name + 1) 0 == p) ≡ false) → bytes_eq (key_of name p) key ≡ false
+    → ((get_or key (length name) 0 == 34) ≡ false) ⊎ ((get_or key (length name + 1) 0 == p) ≡ false)
+    → bytes_eq (key_of name p) key ≡ false
 key_differs name key p some long other =
     let one : length name + 1 ≡ suc (length name) = omega arith in
-    key_other name key p (length name) some refl long (subst (λ i. ((get_or key (length name) 0 == 34) ≡ false) ⊎ ((get_or key i 0 == p) ≡ false)) one other)
+    key_other name key p (length name) some refl long
+    (subst (λ i. ((get_or key (length name) 0 == 34) ≡ false) ⊎ ((get_or key i 0 == p) ≡ false)) one other)
 
 -- the looks at a column that keys name
 pub looks_or_some : (xs : List ℕ) (b : Bool) → 0 < length xs → looks_or xs b ≡ xs
@@ -80,7 +87,8 @@ short_key (n ∷ name) (k ∷ key) h = rw (short_key name key (omega (arith, h))
     and_false true = refl
     and_false false = refl
 
-other_key : (name key : List ℕ) (p : ℕ) → bytes_eq name (take (length name) key) ≡ false → bytes_eq (key_of name p) key ≡ false
+other_key : (name key : List ℕ) (p : ℕ) → bytes_eq name (take (length name) key) ≡ false
+    → bytes_eq (key_of name p) key ≡ false
 other_key [] key p h = cc h
 other_key (n ∷ name) [] zero h = refl
 other_key (n ∷ name) [] (suc p) h = refl
@@ -94,7 +102,8 @@ other_key (n ∷ name) (k ∷ key) (suc p) h = elim (cases_Bool (nat_eq n k)) [
 ]
 
 -- the keys that begin with a name are enough to find out whether one names it
-pub begun_enough : (name : List ℕ) (p : ℕ) (keys : List (List ℕ)) → list_any (bytes_eq (key_of name p)) (begun_by name keys) ≡ list_any (bytes_eq (key_of name p)) keys
+pub begun_enough : (name : List ℕ) (p : ℕ) (keys : List (List ℕ))
+    → list_any (bytes_eq (key_of name p)) (begun_by name keys) ≡ list_any (bytes_eq (key_of name p)) keys
 begun_enough name p [] = refl
 begun_enough name p (k ∷ keys) = elim (cases_Bool (bytes_eq name (take (length name) k))) [
   | inl begun ↦ rw begun (ap (λ b. bytes_eq (key_of name p) k || b) (begun_enough name p keys))

@@ -1,10 +1,12 @@
 -- A byte order mark at the start of a text.
-use Rattle.std.proofs.Common.{◌≡◌, ◌≤◌, ◌∷◌, ◌++◌, [], ◌&&◌, ℕ, List, true, false, nat_lt, length, drop, get_or, refl, inl, inr, arith}
+use Rattle.std.proofs.Common.{◌≡◌, ◌≤◌, ◌∷◌, ◌++◌, [], ◌&&◌, ℕ, List, true, false, nat_lt, length, drop, get_or, refl}
+use Rattle.std.proofs.Common.{inl, inr, arith}
 use Rattle.std.proofs.lemmas.Bool.{cases_Bool}
 use Rattle.std.proofs.lemmas.Bool.Decides.{nat_tests}
 use Rattle.csv.specs.Reading.{is_bom, strip_bom}
 
-pub with_mark : (bytes : List ℕ) → (nat_lt 2 (length bytes) && is_bom (get_or bytes 0 0) (get_or bytes 1 0) (get_or bytes 2 0)) ≡ true → drop 3 bytes ≡ strip_bom bytes
+pub with_mark : (bytes : List ℕ) → (nat_lt 2 (length bytes)
+    && is_bom (get_or bytes 0 0) (get_or bytes 1 0) (get_or bytes 2 0)) ≡ true → drop 3 bytes ≡ strip_bom bytes
 unfolding strip_bom
 with_mark [] h = refl
 with_mark (a ∷ []) h = cc h
@@ -13,7 +15,8 @@ with_mark (a ∷ b ∷ c ∷ rest) h =
     let long : nat_lt 2 (length (a ∷ b ∷ c ∷ rest)) ≡ true = grind (arith, nat_tests) in
     rw (rw long at h) refl
 
-pub no_mark : (bytes : List ℕ) → (nat_lt 2 (length bytes) && is_bom (get_or bytes 0 0) (get_or bytes 1 0) (get_or bytes 2 0)) ≡ false → bytes ≡ strip_bom bytes
+pub no_mark : (bytes : List ℕ) → (nat_lt 2 (length bytes)
+    && is_bom (get_or bytes 0 0) (get_or bytes 1 0) (get_or bytes 2 0)) ≡ false → bytes ≡ strip_bom bytes
 unfolding strip_bom
 no_mark [] h = refl
 no_mark (a ∷ []) h = refl

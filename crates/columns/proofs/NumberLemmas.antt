@@ -1,6 +1,9 @@
 -- Numbers that stand in a text, and the numbers of cells.
-use Rattle.std.proofs.Common.{◌≡◌, ◌≢◌, ◌<◌, ◌≤◌, ◌+◌, ◌-◌, ◌-ℤ◌, ◌*◌, ◌^◌, ◌/◌, ◌%◌, ◌++◌, ◌∷◌, ◌∙◌, [], ℕ, ℤ, pos, neg_ℤ, negsuc, zero, suc, List, true, false, Option, Some, None, IfSome, refl, sym, ap, inl, inr, arith, length, take, drop, get_or, FitsSigned, to_z, of_z, w64}
-use Rattle.std.proofs.lemmas.List.{append-nil, drop_more, get_or-drop, length-append, length-drop, length-take, take_more}
+use Rattle.std.proofs.Common.{◌≡◌, ◌≢◌, ◌<◌, ◌≤◌, ◌+◌, ◌-◌, ◌-ℤ◌, ◌*◌, ◌^◌, ◌/◌, ◌%◌, ◌++◌, ◌∷◌, ◌∙◌, [], ℕ, ℤ, pos}
+use Rattle.std.proofs.Common.{neg_ℤ, negsuc, zero, suc, List, true, false, Option, Some, None, IfSome, refl, sym, ap}
+use Rattle.std.proofs.Common.{inl, inr, arith, length, take, drop, get_or, FitsSigned, to_z, of_z, w64}
+use Rattle.std.proofs.lemmas.List.{append-nil, drop_more, get_or-drop, length-append, length-drop, length-take}
+use Rattle.std.proofs.lemmas.List.{take_more}
 use Rattle.std.proofs.lemmas.Bool.{cases_Bool}
 use Rattle.std.proofs.lemmas.Bool.Decides.{nat_tests}
 use Rattle.std.proofs.lemmas.Fmt.{decimal_by_steps}
@@ -22,10 +25,14 @@ some_list (d ∷ ds) h = λ e. cc e
 
 small_fits : (n : ℕ) → n < 2 ^ 63 → FitsSigned w64 (pos n) × FitsSigned w64 (neg_ℤ (pos n))
 small_fits zero h = (fits_signed_from_abs w64 (pos 0) (omega arith), fits_signed_from_abs w64 (pos 0) (omega arith))
-small_fits (suc n) h = (fits_signed_from_abs w64 (pos (suc n)) (omega arith), fits_signed_from_abs w64 (negsuc n) (omega arith))
+small_fits (suc n) h = (
+  fits_signed_from_abs w64 (pos (suc n)) (omega arith),
+  fits_signed_from_abs w64 (negsuc n) (omega arith),
+)
 
 -- a few digits are a number
-digits_number : (ds : List ℕ) → 0 < length ds → list_all is_ascii_digit ds ≡ true → digits_value ds < 2 ^ 63 → number_of ds ≡ Some (pos (digits_value ds))
+digits_number : (ds : List ℕ) → 0 < length ds → list_all is_ascii_digit ds ≡ true → digits_value ds < 2 ^ 63
+    → number_of ds ≡ Some (pos (digits_value ds))
 digits_number ds some all small = number_of-SpellsCell ds (pos (digits_value ds)) (record {
   before = [];
   sign = [];
@@ -64,49 +71,69 @@ byte_more text at end h within =
     let one : end + 1 - at ≡ (end - at) + 1 = omega arith in
     let here : at + (end - at) ≡ end = omega arith in
     let inside : end - at < length (drop at text) = omega (arith, length-drop at text) in
-    rw one (take_more (drop at text) (end - at) 0 inside ∙ ap (λ b. take (end - at) (drop at text) ++ b ∷ []) (get_or-drop at text (end - at) 0 ∙ ap (λ i. get_or text i 0) here))
+    rw one (take_more (drop at text) (end - at) 0 inside
+    ∙ ap (λ b. take (end - at) (drop at text) ++ b ∷ [])
+    (get_or-drop at text (end - at) 0 ∙ ap (λ i. get_or text i 0) here))
 
-pub digits_more : (text : List ℕ) (at end : ℕ) → at ≤ end → end < length text → list_all is_ascii_digit (take (end - at) (drop at text)) ≡ true
+pub digits_more : (text : List ℕ) (at end : ℕ) → at ≤ end → end < length text
+    → list_all is_ascii_digit (take (end - at) (drop at text)) ≡ true
     → is_ascii_digit (get_or text end 0) ≡ true → list_all is_ascii_digit (take (end + 1 - at) (drop at text)) ≡ true
 digits_more text at end h within all digit =
-    rw (byte_more text at end h within, list_all-append is_ascii_digit (take (end - at) (drop at text)) (get_or text end 0 ∷ []), all, digit) refl
+    rw (
+      byte_more text at end h within,
+      list_all-append is_ascii_digit (take (end - at) (drop at text))
+          (get_or text end 0 ∷ []),
+      all,
+      digit,
+    ) refl
 
 pub value_more : (text : List ℕ) (at end : ℕ) → at ≤ end → end < length text
-    → digits_value (take (end + 1 - at) (drop at text)) ≡ 10 * digits_value (take (end - at) (drop at text)) + (get_or text end 0 - 48)
+    → digits_value (take (end + 1 - at) (drop at text))
+    ≡ 10 * digits_value (take (end - at) (drop at text)) + (get_or text end 0 - 48)
 value_more text at end h within =
-    ap digits_value (byte_more text at end h within) ∙ fold-append (λ n d. 10 * n + (d - 48)) 0 (take (end - at) (drop at text)) (get_or text end 0 ∷ [])
+    ap digits_value (byte_more text at end h within)
+    ∙ fold-append (λ n d. 10 * n + (d - 48)) 0 (take (end - at) (drop at text)) (get_or text end 0 ∷ [])
 
 -- a text from a place on, with a byte or a part of it in front
-pub at_byte : (text : List ℕ) (at c : ℕ) → at < length text → get_or text at 0 ≡ c → drop at text ≡ c ∷ drop (at + 1) text
+pub at_byte : (text : List ℕ) (at c : ℕ) → at < length text → get_or text at 0 ≡ c
+    → drop at text ≡ c ∷ drop (at + 1) text
 at_byte text at c h is = drop_more text at 0 h ∙ ap (λ b. b ∷ drop (at + 1) text) is
 
 pub part : (text : List ℕ) (at end : ℕ) → at ≤ end → drop at text ≡ take (end - at) (drop at text) ++ drop end text
 part text at end h = drop_split text at end h
 
 -- a cell of digits from a place on
-pub digits_there : (text : List ℕ) (at end v : ℕ) → at < end → end ≤ length text → list_all is_ascii_digit (take (end - at) (drop at text)) ≡ true
-    → v ≡ digits_value (take (end - at) (drop at text)) → v < 2 ^ 63 → number_of (take (end - at) (drop at text)) ≡ Some (to_z w64 v)
+pub digits_there : (text : List ℕ) (at end v : ℕ) → at < end → end ≤ length text
+    → list_all is_ascii_digit (take (end - at) (drop at text)) ≡ true
+    → v ≡ digits_value (take (end - at) (drop at text)) → v < 2 ^ 63
+    → number_of (take (end - at) (drop at text)) ≡ Some (to_z w64 v)
 digits_there text at end v some within all is small =
-    let some_digit : 0 < length (take (end - at) (drop at text)) = omega (arith, length-take (end - at) (drop at text), length-drop at text) in
-    digits_number _ some_digit all (rw is at small) ∙ ap Some (rw is (sym (to_z_pos w64 _ (omega (arith, rw is at small)))))
+    let some_digit : 0 < length (take (end - at) (drop at text)) =
+    omega (arith, length-take (end - at) (drop at text), length-drop at text) in
+    digits_number _ some_digit all (rw is at small)
+    ∙ ap Some (rw is (sym (to_z_pos w64 _ (omega (arith, rw is at small)))))
 
 negated : (n : ℕ) → n < 2 ^ 63 → to_z w64 (of_z w64 (pos 0 -ℤ pos n)) ≡ neg_ℤ (pos n)
 negated n h =
     let e : pos 0 -ℤ pos n ≡ neg_ℤ (pos n) = +ℤ_idl (neg_ℤ (pos n)) in
     ap (λ z. to_z w64 (of_z w64 z)) e ∙ to_z-of_z w64 (neg_ℤ (pos n)) (small_fits n h).1
 
-pub minus_there : (text : List ℕ) (at end v : ℕ) → at + 1 < end → end ≤ length text → get_or text at 0 ≡ 45 → list_all is_ascii_digit (take (end - (at + 1)) (drop (at + 1) text)) ≡ true
+pub minus_there : (text : List ℕ) (at end v : ℕ) → at + 1 < end → end ≤ length text → get_or text at 0 ≡ 45
+    → list_all is_ascii_digit (take (end - (at + 1)) (drop (at + 1) text)) ≡ true
     → v ≡ digits_value (take (end - (at + 1)) (drop (at + 1) text)) → v < 2 ^ 63
     → number_of (take (end - at) (drop at text)) ≡ Some (to_z w64 (of_z w64 (pos 0 -ℤ to_z w64 v)))
 minus_there text at end v some within minus all is small =
     let ds = take (end - (at + 1)) (drop (at + 1) text) in
     let more : end - at ≡ suc (end - (at + 1)) = omega arith in
     let spelled : take (end - at) (drop at text) ≡ 45 ∷ ds = rw (more, at_byte text at 45 (omega arith) minus) refl in
-    let some_digit : 0 < length ds = omega (arith, length-take (end - (at + 1)) (drop (at + 1) text), length-drop (at + 1) text) in
+    let some_digit : 0 < length ds = omega
+    (arith, length-take (end - (at + 1)) (drop (at + 1) text), length-drop (at + 1) text) in
     let value : to_z w64 v ≡ pos v = to_z_pos w64 v (omega arith) in
-    rw (spelled, value) (minus_number ds some_digit all (rw is at small) ∙ ap (λ n. Some (neg_ℤ (pos n))) (sym is) ∙ ap Some (sym (negated v small)))
+    rw (spelled, value) (minus_number ds some_digit all (rw is at small) ∙ ap (λ n. Some (neg_ℤ (pos n))) (sym is)
+    ∙ ap Some (sym (negated v small)))
 
-pub both_some : {X : Type 0} (P Q R : X → Type 0) (o : Option X) → IfSome o P → IfSome o Q → ((x : X) → P x → Q x → R x) → IfSome o R
+pub both_some : {X : Type 0} (P Q R : X → Type 0) (o : Option X) → IfSome o P → IfSome o Q → ((x : X) → P x → Q x → R x)
+    → IfSome o R
 both_some P Q R None p q h = tt
 both_some P Q R (Some x) p q h = h x p q
 
@@ -119,7 +146,13 @@ pub number_length : (cell : List ℕ) (n : ℤ) → number_of cell ≡ Some n �
 number_length cell n h =
     let s = SpellsCell-number_of cell n h in
     let long : 0 < length s.digits = some_length s.digits s.some_digit in
-    rw s.text (omega (arith, long, length-append s.before (s.sign ++ (s.digits ++ s.after)), length-append s.sign (s.digits ++ s.after), length-append s.digits s.after))
+    rw s.text (omega (
+      arith,
+      long,
+      length-append s.before (s.sign ++ (s.digits ++ s.after)),
+      length-append s.sign (s.digits ++ s.after),
+      length-append s.digits s.after,
+    ))
   where
     some_length : (ds : List ℕ) → ds ≢ [] → 0 < length ds
     some_length [] some = absurd (some refl)
@@ -128,7 +161,8 @@ number_length cell n h =
 -- ---- blank cells
 
 -- blanks spell no number
-all_blank : (before sign digits after : List ℕ) (m : ℕ) (n : ℤ) → IsSigned sign m n → digits ≢ [] → list_all is_ascii_digit digits ≡ true
+all_blank : (before sign digits after : List ℕ) (m : ℕ) (n : ℤ) → IsSigned sign m n → digits ≢ []
+    → list_all is_ascii_digit digits ≡ true
     → list_all is_blank (before ++ (sign ++ (digits ++ after))) ≡ false
 all_blank (b ∷ before) sign digits after m n s some all = elim (cases_Bool (is_blank b)) [
   | inl blank ↦ rw blank (all_blank before sign digits after m n s some all)
@@ -148,7 +182,8 @@ no_blank cell n h =
     rw s.text (all_blank s.before s.sign s.digits s.after (digits_value s.digits) n s.value s.some_digit s.all_digits)
 
 -- a cell that spells a number is no blank one
-pub filled_number : (b : Option ℤ) (cell : List ℕ) (n : ℤ) → number_of cell ≡ Some n → number_of (filled b cell) ≡ Some n
+pub filled_number : (b : Option ℤ) (cell : List ℕ) (n : ℤ) → number_of cell ≡ Some n
+    → number_of (filled b cell) ≡ Some n
 filled_number None cell n h = h
 filled_number (Some m) cell n h = rw (no_blank cell n h) h
 

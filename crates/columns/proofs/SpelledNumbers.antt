@@ -1,5 +1,7 @@
 -- A cell spells a number exactly where `number_of` gives it.
-use Rattle.std.proofs.Common.{◌≡◌, ◌≢◌, ℕ, ℤ, pos, negsuc, neg_ℤ, List, [], ◌∷◌, ◌++◌, Bool, true, false, ◌&&◌, Option, Some, None, IfSome, length, reverse, refl, sym, ap, subst, ◌∙◌, arith, inl, inr, append_assoc, nat_lt, ◌==◌, FitsSigned, w64, codes}
+use Rattle.std.proofs.Common.{◌≡◌, ◌≢◌, ℕ, ℤ, pos, negsuc, neg_ℤ, List, [], ◌∷◌, ◌++◌, Bool, true, false, ◌&&◌, Option}
+use Rattle.std.proofs.Common.{Some, None, IfSome, length, reverse, refl, sym, ap, subst, ◌∙◌, arith, inl, inr}
+use Rattle.std.proofs.Common.{append_assoc, nat_lt, ◌==◌, FitsSigned, w64, codes}
 use Rattle.std.proofs.lemmas.Bool.Decides.{nat_tests}
 use Rattle.std.proofs.lemmas.Bool.{cases_Bool}
 use Rattle.std.proofs.lemmas.List.{reverse-append, reverse-reverse}
@@ -46,7 +48,8 @@ drop_blanks-digits (d ∷ ds) xs some h =
     rw (digit_no_blank d (both (is_ascii_digit d) (list_all is_ascii_digit ds) h).0) refl
 
 -- the text of a sign and digits has no blanks at its start
-drop_blanks-signed : (sign ds xs : List ℕ) (m : ℕ) (n : ℤ) → IsSigned sign m n → ds ≢ [] → list_all is_ascii_digit ds ≡ true
+drop_blanks-signed : (sign ds xs : List ℕ) (m : ℕ) (n : ℤ) → IsSigned sign m n → ds ≢ []
+    → list_all is_ascii_digit ds ≡ true
     → drop_blanks (sign ++ (ds ++ xs)) ≡ sign ++ (ds ++ xs)
 drop_blanks-signed sign ds xs m n (inl s) some h = rw s.0 (drop_blanks-digits ds xs some h)
 drop_blanks-signed sign ds xs m n (inr (inl s)) some h = rw s.0 refl
@@ -68,7 +71,8 @@ length_some : (ds : List ℕ) → nat_lt 0 (length ds) ≡ true → ds ≢ []
 length_some [] h = λ e. cc h
 length_some (d ∷ ds) h = λ e. cc e
 
-pub signed_digits-fits : (f : ℕ → ℤ) (ds : List ℕ) → ds ≢ [] → list_all is_ascii_digit ds ≡ true → FitsSigned w64 (f (digits_value ds)) → signed_digits f ds ≡ Some (f (digits_value ds))
+pub signed_digits-fits : (f : ℕ → ℤ) (ds : List ℕ) → ds ≢ [] → list_all is_ascii_digit ds ≡ true
+    → FitsSigned w64 (f (digits_value ds)) → signed_digits f ds ≡ Some (f (digits_value ds))
 signed_digits-fits f ds some h fits = rw (some_length ds some, h) (in_range-fits (f (digits_value ds)) fits)
 
 pub signed_digits-digits : (f : ℕ → ℤ) (ds : List ℕ) (n : ℤ) → signed_digits f ds ≡ Some n
@@ -83,7 +87,8 @@ signed_digits-digits f ds n h = elim (cases_Bool (nat_lt 0 (length ds) && list_a
 
 -- what a text without blanks around it spells is a sign and digits
 signed_number-parts : (xs : List ℕ) (n : ℤ) → signed_number xs ≡ Some n
-    → (sign : List ℕ) × (ds : List ℕ) × (xs ≡ sign ++ ds) × (ds ≢ []) × (list_all is_ascii_digit ds ≡ true) × IsSigned sign (digits_value ds) n × FitsSigned w64 n
+    → (sign : List ℕ) × (ds : List ℕ) × (xs ≡ sign ++ ds) × (ds ≢ []) × (list_all is_ascii_digit ds ≡ true)
+    × IsSigned sign (digits_value ds) n × FitsSigned w64 n
 signed_number-parts [] n h = cc h
 signed_number-parts (b ∷ rest) n h = elim (cases_Bool (b == 45)) [
   | inl minus ↦
@@ -105,18 +110,21 @@ pub digit_no_sign : (d : ℕ) → is_ascii_digit d ≡ true → ((d == 45) ≡ f
 digit_no_sign d h = (grind (arith, nat_tests), grind (arith, nat_tests))
 
 -- and the other way round
-signed_number-signed : (sign ds : List ℕ) (n : ℤ) → ds ≢ [] → list_all is_ascii_digit ds ≡ true → IsSigned sign (digits_value ds) n → FitsSigned w64 n
+signed_number-signed : (sign ds : List ℕ) (n : ℤ) → ds ≢ [] → list_all is_ascii_digit ds ≡ true
+    → IsSigned sign (digits_value ds) n → FitsSigned w64 n
     → signed_number (sign ++ ds) ≡ Some n
 signed_number-signed sign [] n some h s fits = absurd (some refl)
 signed_number-signed sign (d ∷ ds) n some h (inl s) fits =
     let digit = (both (is_ascii_digit d) (list_all is_ascii_digit ds) h).0 in
     let no_minus = (digit_no_sign d digit).0 in
     let no_plus = (digit_no_sign d digit).1 in
-    rw (s.0, no_minus, no_plus) (signed_digits-fits pos (d ∷ ds) some h (subst (FitsSigned w64) s.1 fits) ∙ ap Some (sym s.1))
+    rw (s.0, no_minus, no_plus) (signed_digits-fits pos (d ∷ ds) some h (subst (FitsSigned w64) s.1 fits)
+    ∙ ap Some (sym s.1))
 signed_number-signed sign (d ∷ ds) n some h (inr (inl s)) fits =
     rw s.0 (signed_digits-fits pos (d ∷ ds) some h (subst (FitsSigned w64) s.1 fits) ∙ ap Some (sym s.1))
 signed_number-signed sign (d ∷ ds) n some h (inr (inr s)) fits =
-    rw s.0 (signed_digits-fits (λ m. neg_ℤ (pos m)) (d ∷ ds) some h (subst (FitsSigned w64) s.1 fits) ∙ ap Some (sym s.1))
+    rw s.0 (signed_digits-fits (λ m. neg_ℤ (pos m)) (d ∷ ds) some h (subst (FitsSigned w64) s.1 fits)
+    ∙ ap Some (sym s.1))
 
 pub SpellsCell-number_of : (cell : List ℕ) (n : ℤ) → number_of cell ≡ Some n → SpellsCell cell n
 unfolding number_of
@@ -133,7 +141,8 @@ SpellsCell-number_of cell n h =
       sign = sign;
       digits = digits;
       after = reverse last;
-      text = split ∙ ap (λ l. before ++ l) (back ∙ ap (λ l. l ++ reverse last) text ∙ append_assoc sign digits (reverse last));
+      text = split ∙ ap (λ l. before ++ l)
+          (back ∙ ap (λ l. l ++ reverse last) text ∙ append_assoc sign digits (reverse last));
       blank_before = blank_before;
       blank_after = list_all-reverse is_blank last blank_last;
       some_digit = some;
@@ -146,14 +155,17 @@ pub number_of-SpellsCell : (cell : List ℕ) (n : ℤ) → SpellsCell cell n →
 unfolding number_of
 number_of-SpellsCell cell n s =
     let front : drop_blanks cell ≡ s.sign ++ (s.digits ++ s.after) =
-    ap drop_blanks s.text ∙ drop_blanks-blanks s.before _ s.blank_before ∙ drop_blanks-signed s.sign s.digits s.after _ n s.value s.some_digit s.all_digits in
+    ap drop_blanks s.text ∙ drop_blanks-blanks s.before _ s.blank_before
+    ∙ drop_blanks-signed s.sign s.digits s.after _ n s.value s.some_digit s.all_digits in
     let core = s.sign ++ s.digits in
     let backwards : reverse (drop_blanks cell) ≡ reverse s.after ++ (reverse s.digits ++ reverse s.sign) =
-    ap reverse (front ∙ sym (append_assoc s.sign s.digits s.after)) ∙ reverse-append core s.after ∙ ap (λ l. reverse s.after ++ l) (reverse-append s.sign s.digits) in
+    ap reverse (front ∙ sym (append_assoc s.sign s.digits s.after)) ∙ reverse-append core s.after
+    ∙ ap (λ l. reverse s.after ++ l) (reverse-append s.sign s.digits) in
     let some_reversed : reverse s.digits ≢ [] = λ e. s.some_digit (sym (reverse-reverse s.digits) ∙ ap reverse e) in
     let trimmed : drop_blanks (reverse (drop_blanks cell)) ≡ reverse s.digits ++ reverse s.sign =
     ap drop_blanks backwards ∙ drop_blanks-blanks (reverse s.after) _ (list_all-reverse is_blank s.after s.blank_after)
-    ∙ drop_blanks-digits (reverse s.digits) (reverse s.sign) some_reversed (list_all-reverse is_ascii_digit s.digits s.all_digits) in
+    ∙ drop_blanks-digits (reverse s.digits) (reverse s.sign) some_reversed
+    (list_all-reverse is_ascii_digit s.digits s.all_digits) in
     let whole : reverse (drop_blanks (reverse (drop_blanks cell))) ≡ core =
     ap reverse (trimmed ∙ sym (reverse-append s.sign s.digits)) ∙ reverse-reverse core in
     ap signed_number whole ∙ signed_number-signed s.sign s.digits n s.some_digit s.all_digits s.value s.fits

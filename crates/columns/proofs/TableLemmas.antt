@@ -6,12 +6,14 @@ use Rattle.columns.specs.Table.{columns_under, first_number}
 use Rattle.columns.specs.TableOfColumns.{with_row, with_rows}
 use Rattle.tables.specs.TableOfColumns.{named}
 
-pub length-columns_under : (names : List (List ℕ)) (rows : List (List (List ℕ))) → length (columns_under names rows) ≡ length names
+pub length-columns_under : (names : List (List ℕ)) (rows : List (List (List ℕ)))
+    → length (columns_under names rows) ≡ length names
 length-columns_under [] rows = refl
 length-columns_under (name ∷ names) rows = ap suc (length-columns_under names (map (drop 1) rows))
 
 -- the number of columns is the number of names
-pub length_of_header : (columns : List Column) (names : List (List ℕ)) → map named columns ≡ columns_under names [] → length columns ≡ length names
+pub length_of_header : (columns : List Column) (names : List (List ℕ)) → map named columns ≡ columns_under names []
+    → length columns ≡ length names
 length_of_header columns names e = sym (length-map columns named) ∙ ap length e ∙ length-columns_under names []
 
 -- a row more stands under the others

@@ -1,5 +1,6 @@
 -- Meaning: the grammar of a cell of a column file, and the number that it spells.
-use Rattle.std.specs.Prelude.{◌≡◌, ◌≢◌, ◌+◌, ◌*◌, ◌-◌, ◌⊎◌, ◌++◌, [], ◌||◌, ◌==◌, ℕ, ℤ, pos, neg_ℤ, Bool, true, List, codes, fold, FitsSigned}
+use Rattle.std.specs.Prelude.{◌≡◌, ◌≢◌, ◌+◌, ◌*◌, ◌-◌, ◌⊎◌, ◌++◌, [], ◌||◌, ◌==◌, ℕ, ℤ, pos, neg_ℤ, Bool, true, List}
+use Rattle.std.specs.Prelude.{codes, fold, FitsSigned}
 use Rattle.std.specs.Int.{w64}
 use Rattle.std.specs.List.{list_all}
 use Rattle.std.specs.Char.{is_ascii_digit}

@@ -17,4 +17,5 @@ cells_of bytes = table_of (records_of bytes)
 -- the answer follows from the bytes, or says that a read failed or that memory was refused
 abbrev pub IsAnswerTo : List ℕ → Result (List NamedColumn) ColumnFault → Type 0
 IsAnswerTo bytes answer =
-    MatchResult answer (λ columns. cells_of bytes ≡ Ok columns) (λ fault. fault ≢ Read → fault ≢ NoMemory → cells_of bytes ≡ Err fault)
+    MatchResult answer (λ columns. cells_of bytes ≡ Ok columns)
+    (λ fault. fault ≢ Read → fault ≢ NoMemory → cells_of bytes ≡ Err fault)

@@ -1,6 +1,7 @@
 -- Meaning: the grammar of a cell that is looked at with decimal places, its number as a function, and the cell of
 -- integers that it is read as.
-use Rattle.std.specs.Prelude.{◌≡◌, ◌≢◌, ◌≤◌, ◌-◌, ◌*◌, ◌^◌, ◌==◌, ◌++◌, [], ◌∷◌, ℕ, ℤ, zero, suc, pos, neg_ℤ, List, Option, Some, None, true, length, nat_le, if◌then◌else◌, FitsSigned}
+use Rattle.std.specs.Prelude.{◌≡◌, ◌≢◌, ◌≤◌, ◌-◌, ◌*◌, ◌^◌, ◌==◌, ◌++◌, [], ◌∷◌, ℕ, ℤ, zero, suc, pos, neg_ℤ, List}
+use Rattle.std.specs.Prelude.{Option, Some, None, true, length, nat_le, if◌then◌else◌, FitsSigned}
 use Rattle.std.specs.Int.{w64}
 use Rattle.std.specs.Fmt.{signed_decimal}
 use Rattle.std.specs.List.{list_all}

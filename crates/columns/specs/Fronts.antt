@@ -1,5 +1,6 @@
 -- Condition: a text whose first rows stand in the columns already.
-use Rattle.std.specs.Prelude.{◌≡◌, ◌≢◌, ◌++◌, ◌+◌, ◌∷◌, [], ⊤, ℕ, Option, List, None, Some, Result, Ok, Err, MatchResult, length, map, drop}
+use Rattle.std.specs.Prelude.{◌≡◌, ◌≢◌, ◌++◌, ◌+◌, ◌∷◌, [], ⊤, ℕ, Option, List, None, Some, Result, Ok, Err}
+use Rattle.std.specs.Prelude.{MatchResult, length, map, drop}
 use Rattle.std.specs.Io.KnownBytes.{Consumes, IsAtEnd}
 use Rattle.columns.specs.declared.fault.ColumnFault.{ColumnFault}
 use Rattle.columns.specs.declared.fault.ColumnFault.TheVariants.{Read, NoMemory}
@@ -32,7 +33,8 @@ pub record IsFront (form : AbstractForm) (l : Layout) (text left : List ℕ) (co
   pub header : List (List ℕ)
   pub rows : List (List (List ℕ))
   pub layout : IsLayout form l header
-  pub reads : (rest : List ℕ) (more : List (List (List ℕ))) → AreRowsIn l.separator (left ++ rest) more → AreRowsIn l.separator (text ++ rest) (header ∷ (rows ++ more))
+  pub reads : (rest : List ℕ) (more : List (List (List ℕ))) → AreRowsIn l.separator (left ++ rest) more
+      → AreRowsIn l.separator (text ++ rest) (header ∷ (rows ++ more))
   pub fits : header_fault (kept_names (looks_in l) header) ≡ None
   pub good : fault_by l 1 rows ≡ None
   pub put : columns ≡ with_rows (columns_under (kept_names (looks_in l) header) []) (kept_rows l rows)
@@ -41,25 +43,35 @@ pub record IsFront (form : AbstractForm) (l : Layout) (text left : List ℕ) (co
 -- memory failed
 abbrev pub IsAnswerOf : AbstractForm → List ℕ → Result ⊤ ColumnFault → List NamedColumn → Type 0
 IsAnswerOf form text answer columns = (records : List (List (List ℕ))) → AreRowsIn form.separator text records
-    → MatchResult answer (λ _. table_by form records ≡ Ok columns) (λ fault. fault ≢ Read → fault ≢ NoMemory → table_by form records ≡ Err fault)
+    → MatchResult answer (λ _. table_by form records ≡ Ok columns)
+    (λ fault. fault ≢ Read → fault ≢ NoMemory → table_by form records ≡ Err fault)
 
--- a reader gave some bytes; if the rows of a text before `bytes` stood in the columns, the rows of the longer text before
+-- a reader gave some bytes; if the rows of a text before `bytes` stood in the columns, the rows of the longer text
+-- before
 -- `left` do
-abbrev pub Goes : Layout → Option (List ℕ) → Option (List ℕ) → List ℕ → List ℕ → List NamedColumn → List NamedColumn → Type 0
-Goes l before after bytes left columns now = (gone : List ℕ) × Consumes before after gone × ((form : AbstractForm) (text : List ℕ) → IsFront form l text bytes columns
+abbrev pub Goes : Layout → Option (List ℕ) → Option (List ℕ) → List ℕ → List ℕ → List NamedColumn → List NamedColumn
+    → Type 0
+Goes l before after bytes left columns now =
+    (gone : List ℕ) × Consumes before after gone
+    × ((form : AbstractForm) (text : List ℕ) → IsFront form l text bytes columns
     → IsFront form l (text ++ gone) left now)
 
 -- a reader gave some bytes; if the rows of a text before `bytes` stood in the columns, all rows of the longer text do
-abbrev pub IsPutBy : Layout → Option (List ℕ) → Option (List ℕ) → List ℕ → List NamedColumn → Result ⊤ ColumnFault → List NamedColumn → Type 0
-IsPutBy l before after bytes columns answer now = (gone : List ℕ) × Consumes before after gone × ((form : AbstractForm) (text : List ℕ) → IsFront form l text bytes columns
+abbrev pub IsPutBy : Layout → Option (List ℕ) → Option (List ℕ) → List ℕ → List NamedColumn → Result ⊤ ColumnFault
+    → List NamedColumn → Type 0
+IsPutBy l before after bytes columns answer now =
+    (gone : List ℕ) × Consumes before after gone
+    × ((form : AbstractForm) (text : List ℕ) → IsFront form l text bytes columns
     → IsAnswerOf form (text ++ gone) answer now)
 
 -- the rows of a text are put under the columns, or this is the first fault of them, or memory failed
 abbrev pub ArePutUnder : Layout → List ℕ → List NamedColumn → Result ⊤ ColumnFault → List NamedColumn → Type 0
-ArePutUnder l text columns answer now = (rows : List (List (List ℕ))) → AreRowsIn l.separator text rows → MatchResult answer
+ArePutUnder l text columns answer now = (rows : List (List (List ℕ))) → AreRowsIn l.separator text rows
+    → MatchResult answer
     (λ _. (fault_by l (length (cells_at columns 0) + 1) rows ≡ None) × (now ≡ with_rows columns (kept_rows l rows)))
     (λ fault. fault ≢ NoMemory → fault_by l (length (cells_at columns 0) + 1) rows ≡ Some fault)
 
 -- a reader is at its end, unless a read or memory failed
 abbrev pub IsReadWhole : {X : Type 0} → Option (List ℕ) → Result X ColumnFault → Type 0
-IsReadWhole after answer = MatchResult answer (λ _. IsAtEnd after) (λ fault. fault ≢ Read → fault ≢ NoMemory → IsAtEnd after)
+IsReadWhole after answer = MatchResult answer (λ _. IsAtEnd after)
+    (λ fault. fault ≢ Read → fault ≢ NoMemory → IsAtEnd after)

@@ -16,7 +16,12 @@ use Rattle.columns.specs.TextRows.{AreReadIn, IsSeparator, look_count}
 
 -- the form that a form in memory is
 abbrev pub form_of : TableForm → AbstractForm
-form_of f = record { separator = byte_of f.separator; is_all = f.is_all; names = map (λ name. name.items) f.names.items; blank = f.blank }
+form_of f = record {
+  separator = byte_of f.separator;
+  is_all = f.is_all;
+  names = map (λ name. name.items) f.names.items;
+  blank = f.blank;
+}
 
 -- the records of the bytes with a separator, one byte order mark at the start skipped
 abbrev pub records_in : ℕ → List ℕ → List (List (List ℕ))
@@ -25,7 +30,8 @@ records_in s bytes = records (config_of s) (strip_bom bytes)
 -- the answer follows from the bytes in a form, or says that a read failed or that memory was refused
 abbrev pub IsAnswerBy : AbstractForm → List ℕ → Result (List NamedColumn) ColumnFault → Type 0
 IsAnswerBy form bytes answer =
-    MatchResult answer (λ columns. cells_by form bytes ≡ Ok columns) (λ fault. fault ≢ Read → fault ≢ NoMemory → cells_by form bytes ≡ Err fault)
+    MatchResult answer (λ columns. cells_by form bytes ≡ Ok columns)
+    (λ fault. fault ≢ Read → fault ≢ NoMemory → cells_by form bytes ≡ Err fault)
 
 -- the keys that begin with a name
 abbrev pub begun_by : List ℕ → List (List ℕ) → List (List ℕ)

@@ -1,5 +1,6 @@
 -- Meaning: the number of a cell as a function; the contract of `read_cell` says that it is the one of the grammar.
-use Rattle.std.specs.Prelude.{◌^◌, [], ◌∷◌, ◌&&◌, ◌==◌, ℕ, ℤ, pos, negsuc, neg_ℤ, List, Option, Some, None, length, reverse, nat_lt, if◌then◌else◌}
+use Rattle.std.specs.Prelude.{◌^◌, [], ◌∷◌, ◌&&◌, ◌==◌, ℕ, ℤ, pos, negsuc, neg_ℤ, List, Option, Some, None, length}
+use Rattle.std.specs.Prelude.{reverse, nat_lt, if◌then◌else◌}
 use Rattle.std.specs.List.{list_all}
 use Rattle.std.specs.Char.{is_ascii_digit}
 use Rattle.columns.specs.Cell.{digits_value, is_blank}

@@ -1,5 +1,6 @@
 -- Condition: rows that were read in pieces of their text.
-use Rattle.std.specs.Prelude.{◌≡◌, ◌<◌, ◌≤◌, ◌++◌, ◌∷◌, [], ℕ, ℤ, zero, suc, true, List, length, map, drop, fold, get_or}
+use Rattle.std.specs.Prelude.{◌≡◌, ◌<◌, ◌≤◌, ◌++◌, ◌∷◌, [], ℕ, ℤ, zero, suc, true, List, length, map, drop, fold}
+use Rattle.std.specs.Prelude.{get_or}
 use Rattle.columns.specs.declared.layout.Layout.{Layout}
 use Rattle.columns.specs.declared.pieces.TextPiece.{TextPiece}
 use Rattle.tables.specs.declared.table.Column.{Column}
@@ -16,7 +17,8 @@ blanks (suc n) = record { name = []; cells = [] } ∷ blanks n
 abbrev pub append_columns : List NamedColumn → List NamedColumn → List NamedColumn
 append_columns [] piece = []
 append_columns (c ∷ columns) [] = c ∷ columns
-append_columns (c ∷ columns) (p ∷ piece) = record { name = c.name; cells = c.cells ++ p.cells } ∷ append_columns columns piece
+append_columns (c ∷ columns) (p ∷ piece) =
+    record { name = c.name; cells = c.cells ++ p.cells } ∷ append_columns columns piece
 
 -- columns with the cells of pieces under theirs, one piece after the other
 abbrev pub append_pieces : List NamedColumn → List TextPiece → List NamedColumn
@@ -30,7 +32,10 @@ cells_at (c ∷ columns) (suc place) = cells_at columns place
 
 -- a column with the cells of the pieces' columns in this place under its own
 abbrev pub with_pieces : NamedColumn → List TextPiece → ℕ → NamedColumn
-with_pieces c pieces place = record { name = c.name; cells = fold (λ k p. k ++ cells_at (map named p.columns.items) place) c.cells pieces }
+with_pieces c pieces place = record {
+  name = c.name;
+  cells = fold (λ k p. k ++ cells_at (map named p.columns.items) place) c.cells pieces;
+}
 
 -- a column that is whole has the cells of all pieces
 abbrev pub IsPut : List TextPiece → ℕ → Column → Column → Type 0

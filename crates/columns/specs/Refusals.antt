@@ -1,10 +1,12 @@
 -- Meaning: the first reason why a header and the rows under it are no table of numbers.
-use Rattle.std.specs.Prelude.{◌+◌, ◌==◌, ◌||◌, [], ◌∷◌, ℕ, Bool, false, List, Option, Some, None, length, nat_lt, is_some, if◌then◌else◌}
+use Rattle.std.specs.Prelude.{◌+◌, ◌==◌, ◌||◌, [], ◌∷◌, ℕ, Bool, false, List, Option, Some, None, length, nat_lt}
+use Rattle.std.specs.Prelude.{is_some, if◌then◌else◌}
 use Rattle.std.specs.List.{list_any}
 use Rattle.std.specs.Option.{option_or}
 use Rattle.std.specs.Str.{bytes_eq}
 use Rattle.columns.specs.declared.fault.ColumnFault.{ColumnFault}
-use Rattle.columns.specs.declared.fault.ColumnFault.TheVariants.{NoHeader, SameName, BadNumber, RowLength, TooManyColumns, Read, NoMemory}
+use Rattle.columns.specs.declared.fault.ColumnFault.TheVariants.{NoHeader, SameName, BadNumber, RowLength}
+use Rattle.columns.specs.declared.fault.ColumnFault.TheVariants.{TooManyColumns, Read, NoMemory}
 use Rattle.columns.specs.Number.{number_of}
 
 -- whether two names are equal

@@ -1,5 +1,6 @@
 -- Meaning: the table that the records of a column file give.
-use Rattle.std.specs.Prelude.{[], ◌∷◌, ℕ, ℤ, pos, List, Option, Some, None, Result, Ok, Err, length, map, drop, unwrap_or}
+use Rattle.std.specs.Prelude.{[], ◌∷◌, ℕ, ℤ, pos, List, Option, Some, None, Result, Ok, Err, length, map, drop}
+use Rattle.std.specs.Prelude.{unwrap_or}
 use Rattle.std.specs.Option.{option_or}
 use Rattle.columns.specs.declared.fault.ColumnFault.{ColumnFault}
 use Rattle.columns.specs.declared.fault.ColumnFault.TheVariants.{NoHeader}

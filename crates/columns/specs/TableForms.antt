@@ -1,6 +1,7 @@
 -- Meaning: the columns of a table in a form: with this sign between cells, of all columns or the named ones, each of
 -- integers or of numbers with decimal places, and with a number for blank cells or none.
-use Rattle.std.specs.Prelude.{◌+◌, ◌==◌, ◌++◌, [], ◌∷◌, ℕ, ℤ, Bool, true, false, List, Option, Some, None, Result, Err, length, map, is_some, if◌then◌else◌}
+use Rattle.std.specs.Prelude.{◌+◌, ◌==◌, ◌++◌, [], ◌∷◌, ℕ, ℤ, Bool, true, false, List, Option, Some, None, Result, Err}
+use Rattle.std.specs.Prelude.{length, map, is_some, if◌then◌else◌}
 use Rattle.std.specs.Fmt.{signed_decimal}
 use Rattle.std.specs.List.{filter, list_all, list_any}
 use Rattle.std.specs.Option.{option_or}
@@ -17,7 +18,8 @@ use Rattle.columns.specs.Refusals.{header_fault}
 use Rattle.columns.specs.Table.{columns_under, unless}
 use Rattle.tables.specs.Table.{NamedColumn}
 
--- how a table is read: the byte between cells, whether all columns are looked at, the keys of columns by which jobs name
+-- how a table is read: the byte between cells, whether all columns are looked at, the keys of columns by which jobs
+-- name
 -- them, and the number of a blank cell, if it isn't refused
 pub record AbstractForm : Type 0 where
   pub separator : ℕ
@@ -84,7 +86,8 @@ is_good looks cell = list_all (λ p. is_some (number_of (scaled p cell))) looks
 abbrev pub kept_fault : List (List ℕ) → ℕ → ℕ → List (List ℕ) → Option ColumnFault
 kept_fault [] r c cells = None
 kept_fault (m ∷ looks) r c [] = None
-kept_fault (m ∷ looks) r c (cell ∷ cells) = if is_good m cell then kept_fault looks r (c + 1) cells else Some (BadNumber r c)
+kept_fault (m ∷ looks) r c (cell ∷ cells) =
+    if is_good m cell then kept_fault looks r (c + 1) cells else Some (BadNumber r c)
 
 -- row r has a cell for each column of the header and no more, and then each cell spells a number in each of its looks
 abbrev pub row_fault_in : List (List ℕ) → ℕ → List (List ℕ) → Option ColumnFault
@@ -98,7 +101,8 @@ rows_fault_in looks r (row ∷ rows) = option_or (row_fault_in looks r row) (row
 -- helper: the table of a header and rows, of the columns that are looked at
 abbrev pub table_under : List (List ℕ) → List (List ℕ) → List (List (List ℕ)) → Result (List NamedColumn) ColumnFault
 table_under looks header rows =
-    unless (option_or (header_fault (kept_names looks header)) (rows_fault_in looks 1 rows)) (columns_under (kept_names looks header) (map (kept looks) rows))
+    unless (option_or (header_fault (kept_names looks header)) (rows_fault_in looks 1 rows))
+    (columns_under (kept_names looks header) (map (kept looks) rows))
 
 -- the table of some records in a form, where the first record is the header
 abbrev pub table_by : AbstractForm → List (List (List ℕ)) → Result (List NamedColumn) ColumnFault

@@ -1,5 +1,6 @@
 -- Condition: cells and rows of a text that are read where they stand, some of them skipped.
-use Rattle.std.specs.Prelude.{◌≡◌, ◌⊎◌, ◌++◌, ◌∷◌, [], ℕ, ℤ, ◌+◌, List, Bool, Option, Some, None, length, map, take, drop, not, true, false, ◌==◌, ◌||◌}
+use Rattle.std.specs.Prelude.{◌≡◌, ◌⊎◌, ◌++◌, ◌∷◌, [], ℕ, ℤ, ◌+◌, List, Bool, Option, Some, None, length, map, take}
+use Rattle.std.specs.Prelude.{drop, not, true, false, ◌==◌, ◌||◌}
 use Rattle.std.specs.Bool.{MatchBool}
 use Rattle.std.specs.Char.{is_ascii_digit}
 use Rattle.csv.specs.Machine.{Read, next_record}
@@ -8,7 +9,8 @@ use Rattle.csv.specs.declared.parser.State.{State}
 use Rattle.csv.specs.declared.parser.State.TheVariants as st
 use Rattle.columns.specs.Number.{number_of}
 use Rattle.tables.specs.Table.{NamedColumn}
-use Rattle.columns.specs.TableForms.{config_of, filled, filled_rows, is_good, kept, kept_fault, row_fault_in, rows_fault_in, seen}
+use Rattle.columns.specs.TableForms.{config_of, filled, filled_rows, is_good, kept, kept_fault, row_fault_in}
+use Rattle.columns.specs.TableForms.{rows_fault_in, seen}
 use Rattle.columns.specs.TableOfColumns.{with_row, with_rows}
 
 -- the states at the start of a record
@@ -44,7 +46,8 @@ AreRowsIn s xs rows = AreRecords (config_of s) st.StartRecord xs rows
 abbrev pub IsFieldThere : ℕ → List ℕ → List ℕ → Bool → List ℕ → Type 0
 IsFieldThere s xs cell is_last ys = (fields : List (List ℕ)) (rest : List ℕ) → MatchBool is_last
     (Ends (next_record (config_of s) st.StartField fields [] (xs ++ rest)) (fields ++ cell ∷ []) (ys ++ rest))
-    (next_record (config_of s) st.StartField fields [] (xs ++ rest) ≡ next_record (config_of s) st.StartField (fields ++ cell ∷ []) [] (ys ++ rest))
+    (next_record (config_of s) st.StartField fields [] (xs ++ rest)
+    ≡ next_record (config_of s) st.StartField (fields ++ cell ∷ []) [] (ys ++ rest))
 
 -- a field starts at xs, whatever it holds
 pub record IsTextThere (s : ℕ) (xs : List ℕ) (is_last : Bool) (ys : List ℕ) : Type 0 where
@@ -64,12 +67,14 @@ IsMarkThere s xs is_last ys = (c : ℕ) × (xs ≡ c ∷ ys) × (ends_cell s c �
 -- a field goes on from xs to ys, where a byte stands that ends it
 abbrev pub GoesTo : ℕ → List ℕ → List ℕ → List ℕ → Type 0
 GoesTo s xs cell ys = (fields : List (List ℕ)) (rest : List ℕ)
-    → next_record (config_of s) st.StartField fields [] (xs ++ rest) ≡ next_record (config_of s) st.InField fields cell (ys ++ rest)
+    → next_record (config_of s) st.StartField fields [] (xs ++ rest)
+    ≡ next_record (config_of s) st.InField fields cell (ys ++ rest)
 
 -- inside quotes, the bytes from xs to ys are read to others
 abbrev pub GoesQuoted : ℕ → State → List ℕ → List ℕ → List ℕ → Type 0
 GoesQuoted s t xs inside ys = (fields : List (List ℕ)) (field rest : List ℕ)
-    → next_record (config_of s) st.InQuoted fields field (xs ++ rest) ≡ next_record (config_of s) t fields (field ++ inside) (ys ++ rest)
+    → next_record (config_of s) st.InQuoted fields field (xs ++ rest)
+    ≡ next_record (config_of s) t fields (field ++ inside) (ys ++ rest)
 
 -- how many looks there are at the columns of a header
 abbrev pub look_count : List (List ℕ) → ℕ
@@ -79,28 +84,34 @@ look_count (m ∷ looks) = length m + look_count looks
 -- a cell spells a number in each of these looks, and the numbers put the first columns from `before` to `after`
 pub record IsCellPut (m : List ℕ) (cell : List ℕ) (before after : List NamedColumn) : Type 0 where
   pub good : is_good m cell ≡ true
-  pub put : (more : List (List ℕ)) → take (length m) after ++ with_row (drop (length m) after) more ≡ with_row before (seen m cell ++ more)
+  pub put : (more : List (List ℕ)) → take (length m) after ++ with_row (drop (length m) after) more
+      ≡ with_row before (seen m cell ++ more)
 
 -- a field starts at xs whose cell, if need be with its blanks written out, is put under the columns
-pub record IsCellThere (s : ℕ) (b : Option ℤ) (m : List ℕ) (xs : List ℕ) (is_last : Bool) (ys : List ℕ) (before after : List NamedColumn) : Type 0 where
+pub record IsCellThere (s : ℕ) (b : Option ℤ) (m : List ℕ) (xs : List ℕ) (is_last : Bool) (ys : List ℕ)
+    (before after : List NamedColumn) : Type 0 where
   pub cell : List ℕ
   pub reads : IsFieldThere s xs cell is_last ys
   pub is_put : IsCellPut m (filled b cell) before after
 
 -- a row's first field starts at xs; the row has no fault, the next record starts at ys, and its numbers put the columns
 -- from `before` to `after`
-pub record IsRowIn (s : ℕ) (b : Option ℤ) (looks : List (List ℕ)) (xs ys : List ℕ) (before after : List NamedColumn) : Type 0 where
+pub record IsRowIn (s : ℕ) (b : Option ℤ) (looks : List (List ℕ)) (xs ys : List ℕ)
+    (before after : List NamedColumn) : Type 0 where
   pub row : List (List ℕ)
   pub ends : (rest : List ℕ) → Ends (next_record (config_of s) st.StartField [] [] (xs ++ rest)) row (ys ++ rest)
   pub good : (r : ℕ) → row_fault_in looks r (map (filled b) row) ≡ None
   pub put : after ≡ with_row before (kept looks (map (filled b) row))
 
--- the first fields of a row stand from xs on, before ys; those that are looked at are numbers and are put under the first
+-- the first fields of a row stand from xs on, before ys; those that are looked at are numbers and are put under the
+-- first
 -- columns
-pub record AreCellsIn (s : ℕ) (b : Option ℤ) (looks : List (List ℕ)) (xs ys : List ℕ) (count : ℕ) (before after : List NamedColumn) : Type 0 where
+pub record AreCellsIn (s : ℕ) (b : Option ℤ) (looks : List (List ℕ)) (xs ys : List ℕ) (count : ℕ)
+    (before after : List NamedColumn) : Type 0 where
   pub fields : List (List ℕ)
   pub wide : length fields ≡ count
-  pub reads : (rest : List ℕ) → next_record (config_of s) st.StartField [] [] (xs ++ rest) ≡ next_record (config_of s) st.StartField fields [] (ys ++ rest)
+  pub reads : (rest : List ℕ) → next_record (config_of s) st.StartField [] [] (xs ++ rest)
+      ≡ next_record (config_of s) st.StartField fields [] (ys ++ rest)
   pub good : (r c : ℕ) → kept_fault (take count looks) r c (map (filled b) fields) ≡ None
   pub put : (more : List (List ℕ))
       → take (look_count (take count looks)) after ++ with_row (drop (look_count (take count looks)) after) more
@@ -108,9 +119,11 @@ pub record AreCellsIn (s : ℕ) (b : Option ℤ) (looks : List (List ℕ)) (xs y
 
 -- from a record's start at xs to one at ys there are rows without a fault, whatever comes after, which put the columns
 -- from `before` to `after`
-pub record AreReadIn (s : ℕ) (b : Option ℤ) (looks : List (List ℕ)) (xs ys : List ℕ) (before after : List NamedColumn) : Type 0 where
+pub record AreReadIn (s : ℕ) (b : Option ℤ) (looks : List (List ℕ)) (xs ys : List ℕ)
+    (before after : List NamedColumn) : Type 0 where
   pub rows : List (List (List ℕ))
-  pub reads : (rest : List ℕ) (more : List (List (List ℕ))) → AreRowsIn s (ys ++ rest) more → AreRowsIn s (xs ++ rest) (rows ++ more)
+  pub reads : (rest : List ℕ) (more : List (List (List ℕ))) → AreRowsIn s (ys ++ rest) more
+      → AreRowsIn s (xs ++ rest) (rows ++ more)
   pub good : (r : ℕ) → rows_fault_in looks r (filled_rows b rows) ≡ None
   pub put : after ≡ with_rows before (map (kept looks) (filled_rows b rows))
 
@@ -136,4 +149,5 @@ pub record EndsFirst (s : ℕ) (xs : List ℕ) (end : ℕ) : Type 0 where
   pub fields : List (List ℕ)
   pub state : State
   pub between : IsBetween state
-  pub reads : (rest : List ℕ) → next_record (config_of s) st.StartRecord [] [] (take end xs ++ rest) ≡ Some (fields, state, rest)
+  pub reads : (rest : List ℕ) → next_record (config_of s) st.StartRecord [] [] (take end xs ++ rest)
+      ≡ Some (fields, state, rest)

@@ -1,7 +1,7 @@
 //! Column files: tables with columns of integers and of decimals, read into columns of integers or refused.
 //!
 //! Stands on `csv`, whose own definition of the records of a text is cited here, on `counted_io`, whose readers it
-//! gives out, on `run_settings`, whose separators stand between cells, on `job_names`, whose keys name columns, and on
+//! reads from, on `run_settings`, whose separators stand between cells, on `job_names`, whose keys name columns, and on
 //! `tables`. It is for the job reader, which takes a job's cells from `Columns::get`, and for the program. What it
 //! promises to them: `read_columns_as`, clause `cells`: the columns that the bytes give in a form, names and cells in
 //! order, or the first fault with its row and column; clause `read`: a failed read is reported only if one was counted.
@@ -17,6 +17,9 @@
 //! threads.
 //!
 //! Not promised: anything of the bytes that a file or a pipe holds, and that there is memory.
+//!
+//! Tested: `runs.rt`, `shown.rt` of `test_engine`; `decimals.rt`, `messages.rt`, `pieces.rt`, `readers.rt` of
+//! `test_low`; runs of the programs in `tests`.
 #![tactic(auto)]
 
 mod by_records;

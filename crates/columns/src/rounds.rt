@@ -1,4 +1,4 @@
-//! Long column files, read and parsed at the same time.
+//! Column files on threads, read and parsed at the same time.
 //!
 //! A file is read in rounds. While the whole lines of one round are parsed in pieces, or after it with one worker, the
 //! bytes of the next one are read into another buffer, after the beginning of its first line. So few bytes of the file

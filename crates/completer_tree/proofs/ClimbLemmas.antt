@@ -1,5 +1,6 @@
 -- What the seat of a last arrival has for the place that the kept value has.
-use Rattle.std.proofs.Common.{◌≡◌, ◌≢◌, ℕ, suc, ◌<◌, cond, Bool, true, false, List, ◌++◌, sym, refl, ap, ◌∙◌, subst, arith, Some, None, Option}
+use Rattle.std.proofs.Common.{◌≡◌, ◌≢◌, ℕ, suc, ◌<◌, cond, Bool, true, false, List, ◌++◌, sym, refl, ap, ◌∙◌, subst}
+use Rattle.std.proofs.Common.{arith, Some, None, Option}
 use Rattle.completion_core.specs.Legal.{count}
 use Rattle.pending_count.specs.declared.view.View.{View}
 use Rattle.pending_count.specs.declared.place.Place.{Place}
@@ -23,11 +24,13 @@ pub not_whole : (b : Bool) → side_of b ≢ Whole
 not_whole true e = absurd (grind arith)
 not_whole false e = absurd (grind arith)
 
-pub placed : {T : Type 0} (parent root : ℕ) (goes : Option (T × Bool)) (p : Place T) → place_by parent root goes ≡ Some p → (q : T × Bool) × (goes ≡ Some q) × (p ≡ place_at parent root q)
+pub placed : {T : Type 0} (parent root : ℕ) (goes : Option (T × Bool)) (p : Place T)
+    → place_by parent root goes ≡ Some p → (q : T × Bool) × (goes ≡ Some q) × (p ≡ place_at parent root q)
 placed parent root None p e = absurd (grind arith)
 placed parent root (Some q) p e = (q, refl, sym (some_is _ _ e))
 
-pub unplaced : {T : Type 0} (parent root : ℕ) (goes : Option (T × Bool)) → place_by parent root goes ≡ None → goes ≡ None
+pub unplaced : {T : Type 0} (parent root : ℕ) (goes : Option (T × Bool)) → place_by parent root goes ≡ None
+    → goes ≡ None
 unplaced parent root None e = refl
 unplaced parent root (Some q) e = absurd (grind arith)
 
@@ -38,7 +41,8 @@ module _ {V K T : Type 0} (fits : T → Side → V → Type 0) (tag_of : K → T
     (p : Place T) (goes : place_of k ≡ Some p) where
   pub on_held : 0 < count p.node w.held
   on_held =
-      let e : count p.node w.held ≡ count p.node (kept ++ less node v.held) = ap (λ (u : View T). count p.node u.held) is in
+      let e : count p.node w.held ≡ count p.node (kept ++ less node v.held) =
+      ap (λ (u : View T). count p.node u.held) is in
       let a = total-append (one_at p.node) kept (less node v.held) in
       let c = (told.place p goes).0 p.node in
       let h = at_here p.node in
@@ -60,14 +64,27 @@ module _ {V K T : Type 0} (fits : T → Side → V → Type 0) (tag_of : K → T
       ∙ ap (λ b. cond b (Some p.tag) (note_of p.node v.tags)) (here p.node)
 
 -- the step of a last arrival runs the node
-pub ran_last : {V K T : Type 0} (fits : T → Side → V → Type 0) (tag_of : K → T) (place_of : K → Option (Place T)) (nodes actor node : ℕ) {slot : ℕ} {v w : View T} (n : ℕ) → n ≡ 1 → IsHanded fits tag_of place_of nodes actor node slot v n w → RanAt T (Option (Slot V K)) nodes actor node
+pub ran_last : {V K T : Type 0} (fits : T → Side → V → Type 0) (tag_of : K → T) (place_of : K → Option (Place T))
+    (nodes actor node : ℕ) {slot : ℕ} {v w : View T} (n : ℕ) → n ≡ 1
+    → IsHanded fits tag_of place_of nodes actor node slot v n w → RanAt T (Option (Slot V K)) nodes actor node
 ran_last fits tag_of place_of nodes actor node {slot} {v} {w} n one told =
-    let at_one : IsHanded fits tag_of place_of nodes actor node slot v 1 w = subst (λ k. IsHanded fits tag_of place_of nodes actor node slot v k w) one told in
+    let at_one : IsHanded fits tag_of place_of nodes actor node slot v 1 w =
+    subst (λ k. IsHanded fits tag_of place_of nodes actor node slot v k w) one told in
     record { old = _; new = w; step = at_one.one_step }
 
 -- an arrival that wasn't the last, said of another seat of one actor
-pub pending_as : {V K T A : Type 0} {g : Ghosts K V T} (r : Option A) (counts : Counts V K T) (seat next later : Seat V K T g) → actor_of next ≡ actor_of seat → IfNone r (WasPending counts next later) → IfNone r (WasPending counts seat later)
-pending_as {g = g} None counts seat next later same h = record { place = h.place; before = h.before; owed = h.owed; others = h.others; handed = subst (λ a. IsHanded g.fits g.tag_of g.place_of (nodes_of counts) a h.place.node (slot_of h.place.node h.place.side) h.before h.owed (view_of later)) same h.handed }
+pub pending_as : {V K T A : Type 0} {g : Ghosts K V T} (r : Option A) (counts : Counts V K T)
+    (seat next later : Seat V K T g) → actor_of next ≡ actor_of seat → IfNone r (WasPending counts next later)
+    → IfNone r (WasPending counts seat later)
+pending_as {g = g} None counts seat next later same h =
+    record {
+      place = h.place;
+      before = h.before;
+      owed = h.owed;
+      others = h.others;
+      handed = subst (λ a. IsHanded g.fits g.tag_of g.place_of (nodes_of counts) a h.place.node
+          (slot_of h.place.node h.place.side) h.before h.owed (view_of later)) same h.handed;
+    }
 pending_as (Some x) counts seat next later same h = tt
 
 -- what is left of a climb: nothing at the top, else the nodes up to the parent
@@ -75,7 +92,10 @@ abbrev pub height : {T : Type 0} → ℕ → Option (T × Bool) → ℕ
 height parent None = 0
 height parent (Some q) = suc parent
 
-pub lower : {T : Type 0} (parent root : ℕ) (goes : Option (T × Bool)) (parent2 root2 : ℕ) (goes2 : Option (T × Bool)) (p : Place T) → place_by parent root goes ≡ Some p → ((q : Place T) → place_by parent2 root2 goes2 ≡ Some q → q.node < p.node) → height parent2 goes2 < height parent goes
+pub lower : {T : Type 0} (parent root : ℕ) (goes : Option (T × Bool)) (parent2 root2 : ℕ) (goes2 : Option (T × Bool))
+    (p : Place T) → place_by parent root goes ≡ Some p
+    → ((q : Place T) → place_by parent2 root2 goes2 ≡ Some q → q.node < p.node)
+    → height parent2 goes2 < height parent goes
 lower parent root None parent2 root2 goes2 p e h = absurd (grind arith)
 lower parent root (Some q) parent2 root2 None p e h = omega arith
 lower parent root (Some q) parent2 root2 (Some q2) p e h =

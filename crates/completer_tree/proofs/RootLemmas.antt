@@ -1,5 +1,6 @@
 -- What a seat's notes say of the top of its tree, when it forks and when it climbs.
-use Rattle.std.proofs.Common.{◌≡◌, ◌≢◌, ℕ, ◌+◌, ◌-◌, ◌<◌, ◌≤◌, cond, nat_lt, Bool, true, List, [], ◌∷◌, ◌++◌, sym, refl, ap, ◌∙◌, subst, arith, ne_eqb, Some, None, Option}
+use Rattle.std.proofs.Common.{◌≡◌, ◌≢◌, ℕ, ◌+◌, ◌-◌, ◌<◌, ◌≤◌, cond, nat_lt, Bool, true, List, [], ◌∷◌, ◌++◌, sym, refl}
+use Rattle.std.proofs.Common.{ap, ◌∙◌, subst, arith, ne_eqb, Some, None, Option}
 use Rattle.std.proofs.lemmas.Grind.{common_steps}
 use Rattle.std.specs.Prelude.{IfSome}
 use Rattle.pending_count.specs.declared.place.Fits.{Ghosts}
@@ -13,7 +14,8 @@ use Rattle.completion_core.specs.Legal.{count}
 use Rattle.pending_count.specs.declared.view.View.{View}
 use Rattle.pending_count.specs.declared.place.Place.{Place}
 use Rattle.pending_count.specs.declared.place.Side.{Side}
-use Rattle.pending_count.specs.Views.{less, minus, note_of, sides_of, closed_view, paired_view, rest_view, part_view, left_slot, right_slot}
+use Rattle.pending_count.specs.Views.{less, minus, note_of, sides_of, closed_view, paired_view, rest_view, part_view}
+use Rattle.pending_count.specs.Views.{left_slot, right_slot}
 use Rattle.pending_count.specs.Pairs.{slot_of, noted_place, tags_after}
 use Rattle.pending_count.specs.PairSteps.{IsKept}
 use Rattle.pending_count.specs.Steps.{IsClaimed, drawn_node}
@@ -43,18 +45,22 @@ here_note : {A : Type 0} (node : ℕ) (a : A) (xs : List (ℕ × A)) → note_of
 here_note node a xs = ap (λ b. cond b (Some a) (note_of node xs)) (here node)
 
 -- a place of this tree that was noted is the one with which the node was armed
-pub place_is : {T : Type 0} (at : Option (Place T)) (goes : Option (T × Bool)) (node : ℕ) → (at ≡ None → goes ≡ None) → ((p : Place T) → at ≡ Some p → at ≡ place_by p.node p.root goes) → place_by (parent_of at) (root_of at node) goes ≡ at
+pub place_is : {T : Type 0} (at : Option (Place T)) (goes : Option (T × Bool)) (node : ℕ) → (at ≡ None → goes ≡ None)
+    → ((p : Place T) → at ≡ Some p → at ≡ place_by p.node p.root goes)
+    → place_by (parent_of at) (root_of at node) goes ≡ at
 place_is None goes node top placed = ap (λ o. place_by 0 node o) (top refl)
 place_is (Some p) goes node top placed = sym (placed p refl)
 
-module _ {S T : Type 0} {nodes actor n : ℕ} (node : ℕ) (onward : List ℕ) (tag : T) (at : Option (Place T)) (v0 v1 v2 : View T) (claim : IsClaimed S nodes actor v0 n v1) (drew : drawn_node nodes n ≡ Some node)
+module _ {S T : Type 0} {nodes actor n : ℕ} (node : ℕ) (onward : List ℕ) (tag : T) (at : Option (Place T))
+    (v0 v1 v2 : View T) (claim : IsClaimed S nodes actor v0 n v1) (drew : drawn_node nodes n ≡ Some node)
     (is : v2 ≡ paired_view node onward tag (noted_place at) v1) (rooted : Rooted v0.places)
     (leads : (p : Place T) → at ≡ Some p → Leads v0.places p.node p.root × (p.node ≤ n)) where
   abbrev drawn : View T
   drawn = record v0 { credit = v0.credit - 1; claims = (n + 1) ∷ v0.claims }
 
   claim_is : v1 ≡ drawn
-  claim_is = claim.view ∙ ap (λ c. cond c drawn (record v0 { credit = v0.credit - 1; none_left = true })) (below n nodes (drawn_is nodes n node drew).1)
+  claim_is = claim.view ∙ ap (λ c. cond c drawn (record v0 { credit = v0.credit - 1; none_left = true }))
+      (below n nodes (drawn_is nodes n node drew).1)
 
   node_is : node ≡ n + 1
   node_is = (drawn_is nodes n node drew).0
@@ -66,13 +72,15 @@ module _ {S T : Type 0} {nodes actor n : ℕ} (node : ℕ) (onward : List ℕ) (
   noted_is = ap (λ (u : View T). u.noted) is ∙ ap (λ (u : View T). (node, onward) ∷ u.noted) claim_is
 
   pub noted_sides_is : v2.noted_sides ≡ (node, sides_of onward v0.sides) ∷ v0.noted_sides
-  noted_sides_is = ap (λ (u : View T). u.noted_sides) is ∙ ap (λ (u : View T). (node, sides_of onward u.sides) ∷ u.noted_sides) claim_is
+  noted_sides_is = ap (λ (u : View T). u.noted_sides) is
+      ∙ ap (λ (u : View T). (node, sides_of onward u.sides) ∷ u.noted_sides) claim_is
 
   abbrev after : Notes T
   after = (node, noted_place at) ∷ v0.places
 
   older : (m : ℕ) → note_of m v0.places ≢ None → m ≢ node
-  older m known e = let s = some_of (note_of m v0.places) known in let l = claim.unplaced m s.0 s.1 in let k = node_is in absurd (omega arith)
+  older m known e = let s = some_of (note_of m v0.places) known in let l = claim.unplaced m s.0 s.1 in
+      let k = node_is in absurd (omega arith)
 
   same : (m : ℕ) → m ≢ node → note_of m after ≡ note_of m v0.places
   same m other = else_note node m (noted_place at) v0.places other
@@ -87,42 +95,59 @@ module _ {S T : Type 0} {nodes actor n : ℕ} (node : ℕ) (onward : List ℕ) (
         low = l.low;
       }
 
-  under_here : (o : Option (Place T)) → ((p : Place T) → o ≡ Some p → Leads v0.places p.node p.root × (p.node ≤ n)) → (q : ℕ × (ℕ × (ℕ × T))) → noted_place o ≡ Some q → Leads after q.0 q.1.1.0
+  under_here : (o : Option (Place T)) → ((p : Place T) → o ≡ Some p → Leads v0.places p.node p.root × (p.node ≤ n))
+      → (q : ℕ × (ℕ × (ℕ × T))) → noted_place o ≡ Some q → Leads after q.0 q.1.1.0
   under_here None l q e = absurd (grind arith)
-  under_here (Some p) l q e = subst (λ (z : ℕ × (ℕ × (ℕ × T))). Leads after z.0 z.1.1.0) (some_is (p.node, (slot_of p.node p.side, (p.root, p.tag))) q e) (leads_on p.node p.root (l p refl).0)
+  under_here (Some p) l q e = subst (λ (z : ℕ × (ℕ × (ℕ × T))). Leads after z.0 z.1.1.0)
+      (some_is (p.node, (slot_of p.node p.side, (p.root, p.tag))) q e) (leads_on p.node p.root (l p refl).0)
 
   rooted_on : Rooted after
   rooted_on m q e = dite (ℕ_discrete m node)
-      (λ z. under_here at leads q (some_is (noted_place at) (Some q) (sym (here_note node (noted_place at) v0.places) ∙ ap (λ k. note_of k after) (sym z) ∙ e)))
+      (λ z. under_here at leads q (some_is (noted_place at) (Some q)
+      (sym (here_note node (noted_place at) v0.places) ∙ ap (λ k. note_of k after) (sym z) ∙ e)))
       (λ z. leads_on q.0 q.1.1.0 (rooted m q (sym (same m z) ∙ e)))
 
-  leads_here : (o : Option (Place T)) → noted_place o ≡ noted_place at → ((p : Place T) → o ≡ Some p → Leads v0.places p.node p.root × (p.node ≤ n)) → Leads after node (root_of o node)
+  leads_here : (o : Option (Place T)) → noted_place o ≡ noted_place at
+      → ((p : Place T) → o ≡ Some p → Leads v0.places p.node p.root × (p.node ≤ n)) → Leads after node (root_of o node)
   leads_here None e l = record {
     known = not_none (note_of node after) (noted_place at) (here_note node (noted_place at) v0.places);
     top = λ z. refl;
-    under = λ q z. let f : None ≡ Some q = e ∙ some_is (noted_place at) (Some q) (sym (here_note node (noted_place at) v0.places) ∙ z) in absurd (grind arith);
+    under = λ q z. let f : None ≡ Some q =
+        e ∙ some_is (noted_place at) (Some q) (sym (here_note node (noted_place at) v0.places) ∙ z) in
+        absurd (grind arith);
     low = omega arith;
   }
   leads_here (Some p) e l = record {
     known = not_none (note_of node after) (noted_place at) (here_note node (noted_place at) v0.places);
-    top = λ z. let f : Some (p.node, (slot_of p.node p.side, (p.root, p.tag))) ≡ None = e ∙ some_is (noted_place at) None (sym (here_note node (noted_place at) v0.places) ∙ z) in absurd (grind arith);
+    top = λ z. let f : Some (p.node, (slot_of p.node p.side, (p.root, p.tag))) ≡ None =
+        e ∙ some_is (noted_place at) None (sym (here_note node (noted_place at) v0.places) ∙ z) in absurd (grind arith);
     under = λ q z.
-        let f : Some (p.node, (slot_of p.node p.side, (p.root, p.tag))) ≡ Some q = e ∙ some_is (noted_place at) (Some q) (sym (here_note node (noted_place at) v0.places) ∙ z) in
+        let f : Some (p.node, (slot_of p.node p.side, (p.root, p.tag))) ≡ Some q =
+        e ∙ some_is (noted_place at) (Some q) (sym (here_note node (noted_place at) v0.places) ∙ z) in
         sym (ap (λ (y : ℕ × (ℕ × (ℕ × T))). y.1.1.0) (some_is (p.node, (slot_of p.node p.side, (p.root, p.tag))) q f));
     low = (let a = (l p refl).0.low in let b = (l p refl).1 in let k = node_is in omega arith);
   }
 
-  root_known : (o : Option (Place T)) → ((p : Place T) → o ≡ Some p → Leads v0.places p.node p.root × (p.node ≤ n)) → (given : List ℕ) (mine : List ℕ) (noted : List (ℕ × List ℕ)) → root_note o mine noted ≡ Some given → note_of (root_of o node) ((node, mine) ∷ noted) ≡ Some given
+  root_known : (o : Option (Place T)) → ((p : Place T) → o ≡ Some p → Leads v0.places p.node p.root × (p.node ≤ n))
+      → (given : List ℕ) (mine : List ℕ) (noted : List (ℕ × List ℕ)) → root_note o mine noted ≡ Some given
+      → note_of (root_of o node) ((node, mine) ∷ noted) ≡ Some given
   root_known None l given mine noted e = here_note node mine noted ∙ e
-  root_known (Some p) l given mine noted e = else_note node p.root mine noted (λ z. let a = (l p refl).0.low in let b = (l p refl).1 in let k = node_is in absurd (omega arith)) ∙ e
+  root_known (Some p) l given mine noted e =
+      else_note node p.root mine noted (λ z. let a = (l p refl).0.low in let b = (l p refl).1 in let k = node_is in
+      absurd (omega arith)) ∙ e
 
   sides_is : v2.sides ≡ left_slot node ∷ right_slot node ∷ minus (sides_of onward v0.sides) v0.sides
-  sides_is = ap (λ (u : View T). u.sides) is ∙ ap (λ (u : View T). left_slot node ∷ right_slot node ∷ minus (sides_of onward u.sides) u.sides) claim_is
+  sides_is = ap (λ (u : View T). u.sides) is
+      ∙ ap (λ (u : View T). left_slot node ∷ right_slot node ∷ minus (sides_of onward u.sides) u.sides) claim_is
 
   -- of a seat with these notes: a place of this tree that was noted is the one with which the node was armed
-  module _ (w : View T) (p : Place T) (where_is : p.node ≡ node) (root_is : p.root ≡ root_of at node) (places : w.places ≡ v2.places) (noted : w.noted ≡ v2.noted) (noted_sides : w.noted_sides ≡ v2.noted_sides) (few : (k : ℕ) → count k w.sides ≤ count k v2.sides) where
+  module _ (w : View T) (p : Place T) (where_is : p.node ≡ node) (root_is : p.root ≡ root_of at node)
+      (places : w.places ≡ v2.places) (noted : w.noted ≡ v2.noted) (noted_sides : w.noted_sides ≡ v2.noted_sides)
+      (few : (k : ℕ) → count k w.sides ≤ count k v2.sides) where
     pub fork_leads : Leads w.places p.node p.root
-    fork_leads = subst (λ l. Leads l p.node p.root) (sym (places ∙ places_is)) (subst (λ k. Leads after k p.root) (sym where_is) (subst (λ k. Leads after node k) (sym root_is) (leads_here at refl leads)))
+    fork_leads = subst (λ l. Leads l p.node p.root) (sym (places ∙ places_is))
+        (subst (λ k. Leads after k p.root) (sym where_is)
+        (subst (λ k. Leads after node k) (sym root_is) (leads_here at refl leads)))
 
     pub fork_rooted : Rooted w.places
     fork_rooted = subst (λ l. Rooted l) (sym (places ∙ places_is)) rooted_on
@@ -131,16 +156,25 @@ module _ {S T : Type 0} {nodes actor n : ℕ} (node : ℕ) (onward : List ℕ) (
     fork_knows = record {
       root = root_is ∙ ap (λ k. root_of at k) (sym where_is);
       above = λ i given e. let l = claim.unnoted i given e in let k = node_is in let at_node = where_is in omega arith;
-      noted = λ given e. ap (λ k. note_of k w.noted) root_is ∙ ap (λ l. note_of (root_of at node) l) (noted ∙ noted_is) ∙ root_known at leads given onward v0.noted e;
-      noted_sides = λ given e. ap (λ k. note_of k w.noted_sides) root_is ∙ ap (λ l. note_of (root_of at node) l) (noted_sides ∙ noted_sides_is) ∙ root_known at leads given (sides_of onward v0.sides) v0.noted_sides e;
+      noted = λ given e. ap (λ k. note_of k w.noted) root_is ∙ ap (λ l. note_of (root_of at node) l) (noted ∙ noted_is)
+          ∙ root_known at leads given onward v0.noted e;
+      noted_sides = λ given e. ap (λ k. note_of k w.noted_sides) root_is
+          ∙ ap (λ l. note_of (root_of at node) l) (noted_sides ∙ noted_sides_is)
+          ∙ root_known at leads given (sides_of onward v0.sides) v0.noted_sides e;
       only_own = λ k.
           let a = few k in
           let b = ap (count k) sides_is in
           let m = minus_le k (sides_of onward v0.sides) v0.sides in
-          let here_is : count k (left_slot p.node ∷ right_slot p.node ∷ []) ≡ count k (left_slot node ∷ right_slot node ∷ []) = ap (λ i. count k (left_slot i ∷ right_slot i ∷ [])) where_is in
+          let here_is : count k (left_slot p.node ∷ right_slot p.node ∷ [])
+          ≡ count k (left_slot node ∷ right_slot node ∷ []) =
+          ap (λ i. count k (left_slot i ∷ right_slot i ∷ [])) where_is in
           omega arith;
-      still_noted = λ i given e. ap (note_of i) (noted ∙ noted_is) ∙ else_note node i onward v0.noted (λ z. let l = claim.unnoted i given e in let k = node_is in absurd (omega arith)) ∙ e;
-      still_noted_sides = λ i given e. ap (note_of i) (noted_sides ∙ noted_sides_is) ∙ else_note node i (sides_of onward v0.sides) v0.noted_sides (λ z. let l = claim.unnoted_sides i given e in let k = node_is in absurd (omega arith)) ∙ e;
+      still_noted = λ i given e. ap (note_of i) (noted ∙ noted_is)
+          ∙ else_note node i onward v0.noted
+          (λ z. let l = claim.unnoted i given e in let k = node_is in absurd (omega arith)) ∙ e;
+      still_noted_sides = λ i given e. ap (note_of i) (noted_sides ∙ noted_sides_is)
+          ∙ else_note node i (sides_of onward v0.sides) v0.noted_sides
+          (λ z. let l = claim.unnoted_sides i given e in let k = node_is in absurd (omega arith)) ∙ e;
     }
 
 module _ {V K T : Type 0} (fits : T → Side → V → Type 0) (tag_of : K → T) (place_of : K → Option (Place T))
@@ -181,7 +215,8 @@ module _ {V K T : Type 0} (fits : T → Side → V → Type 0) (tag_of : K → T
     root_same = leads.under (p.node, (slot_of p.node p.side, (p.root, p.tag))) note_is
 
     pub next_leads : Leads w.places p.node p.root
-    next_leads = subst (λ l. Leads l p.node p.root) (sym places_same) (rooted at.node (p.node, (slot_of p.node p.side, (p.root, p.tag))) note_is)
+    next_leads = subst (λ l. Leads l p.node p.root) (sym places_same)
+        (rooted at.node (p.node, (slot_of p.node p.side, (p.root, p.tag))) note_is)
 
     pub next_rooted : Rooted w.places
     next_rooted = subst (λ l. Rooted l) (sym places_same) rooted
@@ -203,8 +238,10 @@ module _ {V K T : Type 0} (fits : T → Side → V → Type 0) (tag_of : K → T
 
     pub kept_here : HasKept at v w
     kept_here = record {
-      held = λ given e j. let b = held_is j in let c = told.noted given (ap (λ i. note_of i v.noted) at_top ∙ e) j in omega arith;
-      sides = λ given e j. let b = sides_are j in let c = told.noted_sides given (ap (λ i. note_of i v.noted_sides) at_top ∙ e) j in omega arith;
+      held = λ given e j. let b = held_is j in let c = told.noted given (ap (λ i. note_of i v.noted) at_top ∙ e) j in
+          omega arith;
+      sides = λ given e j. let b = sides_are j in
+          let c = told.noted_sides given (ap (λ i. note_of i v.noted_sides) at_top ∙ e) j in omega arith;
       noted = ap (λ (u : View T). u.noted) is;
       noted_sides = ap (λ (u : View T). u.noted_sides) is;
       places = places_same;
@@ -217,7 +254,8 @@ kept_above at p v w z m h = record {
       let a = h.held given (ap (λ i. note_of i w.noted) m.root ∙ ap (λ l. note_of at.root l) m.noted ∙ e) j in
       let b = m.held j in omega arith;
   sides = λ given e j.
-      let a = h.sides given (ap (λ i. note_of i w.noted_sides) m.root ∙ ap (λ l. note_of at.root l) m.noted_sides ∙ e) j in
+      let a = h.sides given (ap (λ i. note_of i w.noted_sides) m.root ∙ ap (λ l. note_of at.root l) m.noted_sides ∙ e)
+      j in
       let b = m.sides j in omega arith;
   noted = h.noted ∙ m.noted;
   noted_sides = h.noted_sides ∙ m.noted_sides;
@@ -230,14 +268,16 @@ whenever None x = tt
 whenever (Some a) x = x
 
 -- the result of the climb from the next place on is that from here on
-pub climb_kept : {T A : Type 0} (o : Option (Place T)) (r : Option A) (at : Place T) (v w z : View T) → ((p : Place T) → o ≡ Some p → HasMoved at p v w) → (o ≡ None → HasKept at v w) → (o ≡ None → z ≡ w)
+pub climb_kept : {T A : Type 0} (o : Option (Place T)) (r : Option A) (at : Place T) (v w z : View T)
+    → ((p : Place T) → o ≡ Some p → HasMoved at p v w) → (o ≡ None → HasKept at v w) → (o ≡ None → z ≡ w)
     → IfSome o (λ p. IfSome r (λ _. HasKept p w z)) → IfSome r (λ _. HasKept at v z)
 climb_kept None r at v w z moved kept same h = whenever r (subst (λ u. HasKept at v u) (sym (same refl)) (kept refl))
 climb_kept (Some p) None at v w z moved kept same h = tt
 climb_kept (Some p) (Some a) at v w z moved kept same h = kept_above at p v w z (moved p refl) h
 
 -- the node that ran last is the top of the tree
-pub climb_ran : {T A : Type 0} (Ran : ℕ → Type 0) (o : Option (Place T)) (r : Option A) (at : Place T) → ((p : Place T) → o ≡ Some p → p.root ≡ at.root) → (o ≡ None → at.node ≡ at.root) → Ran at.node
+pub climb_ran : {T A : Type 0} (Ran : ℕ → Type 0) (o : Option (Place T)) (r : Option A) (at : Place T)
+    → ((p : Place T) → o ≡ Some p → p.root ≡ at.root) → (o ≡ None → at.node ≡ at.root) → Ran at.node
     → IfSome o (λ p. IfSome r (λ _. Ran p.root)) → IfSome r (λ _. Ran at.root)
 climb_ran Ran None r at root top ran h = whenever r (subst Ran (top refl) ran)
 climb_ran Ran (Some p) None at root top ran h = tt
@@ -247,18 +287,28 @@ pub at_some : {A : Type 0} (P : A → Type 0) (o : Option A) → IfSome o P → 
 at_some P o h a e = subst (λ z. IfSome z P) e h
 
 -- the node was armed with the place at which the tree is forked
-pub paired_as : {T : Type 0} (at : Option (Place T)) (goes : Option (T × Bool)) (node : ℕ) (above : ℕ × ℕ) → (above.0 ≡ parent_of at) × (above.1 ≡ root_of at node) → (at ≡ None → goes ≡ None) → ((p : Place T) → at ≡ Some p → Some p ≡ place_by p.node p.root goes)
-    → (onward : List ℕ) (tag : T) (v1 v2 : View T) → v2 ≡ paired_view node onward tag (noted_place (place_by above.0 above.1 goes)) v1 → v2 ≡ paired_view node onward tag (noted_place at) v1
+pub paired_as : {T : Type 0} (at : Option (Place T)) (goes : Option (T × Bool)) (node : ℕ) (above : ℕ × ℕ)
+    → (above.0 ≡ parent_of at) × (above.1 ≡ root_of at node) → (at ≡ None → goes ≡ None)
+    → ((p : Place T) → at ≡ Some p → Some p ≡ place_by p.node p.root goes)
+    → (onward : List ℕ) (tag : T) (v1 v2 : View T)
+    → v2 ≡ paired_view node onward tag (noted_place (place_by above.0 above.1 goes)) v1
+    → v2 ≡ paired_view node onward tag (noted_place at) v1
 paired_as at goes node above is top placed onward tag v1 v2 w =
-    w ∙ ap (λ o. paired_view node onward tag (noted_place o) v1) (ap (λ k. place_by k above.1 goes) is.0 ∙ ap (λ k. place_by (parent_of at) k goes) is.1 ∙ place_is at goes node top (λ p e. e ∙ placed p e))
+    w ∙ ap (λ o. paired_view node onward tag (noted_place o) v1)
+    (ap (λ k. place_by k above.1 goes) is.0 ∙ ap (λ k. place_by (parent_of at) k goes) is.1
+    ∙ place_is at goes node top (λ p e. e ∙ placed p e))
 
 -- what the seat has at the place at which it forks
-pub led : {V K T : Type 0} {g : Ghosts K V T} {S : Type 0} {nodes actor n : ℕ} {v1 : View T} (id : TableId) (seat : Seat V K T g) (at : Option (Place T)) → ((p : Place T) → at ≡ Some p → CanFork id p seat) → IsClaimed S nodes actor (view_of seat) n v1
+pub led : {V K T : Type 0} {g : Ghosts K V T} {S : Type 0} {nodes actor n : ℕ} {v1 : View T} (id : TableId)
+    (seat : Seat V K T g) (at : Option (Place T)) → ((p : Place T) → at ≡ Some p → CanFork id p seat)
+    → IsClaimed S nodes actor (view_of seat) n v1
     → (p : Place T) → at ≡ Some p → Leads (view_of seat).places p.node p.root × (p.node ≤ n)
-led id seat at can claim p e = let f = can p e in let h = f.can_hand.held in (f.can_hand.leads, claim.larger p.node (omega arith))
+led id seat at can claim p e = let f = can p e in let h = f.can_hand.held in
+    (f.can_hand.leads, claim.larger p.node (omega arith))
 
 -- a seat that is as it was can hand in what it could
-pub unchanged_can : {V K T : Type 0} {g : Ghosts K V T} {id : TableId} {p : Place T} {seat later : Seat V K T g} → CanHand id p seat → table_of later ≡ id → IsUnchanged seat later → CanHand id p later
+pub unchanged_can : {V K T : Type 0} {g : Ghosts K V T} {id : TableId} {p : Place T} {seat later : Seat V K T g}
+    → CanHand id p seat → table_of later ≡ id → IsUnchanged seat later → CanHand id p later
 unchanged_can {p = p} h table same = record {
   table = table;
   held = (let a = ap (count p.node) same.held in let b = h.held in omega arith);
@@ -268,18 +318,25 @@ unchanged_can {p = p} h table same = record {
   rooted = subst (λ l. Rooted l) (sym same.places) h.rooted;
 }
 
-pub unchanged_fork : {V K T : Type 0} {g : Ghosts K V T} {id : TableId} {p : Place T} {seat later : Seat V K T g} → CanFork id p seat → table_of later ≡ id → IsUnchanged seat later → CanFork id p later
+pub unchanged_fork : {V K T : Type 0} {g : Ghosts K V T} {id : TableId} {p : Place T} {seat later : Seat V K T g}
+    → CanFork id p seat → table_of later ≡ id → IsUnchanged seat later → CanFork id p later
 unchanged_fork {p = p} h table same = record {
   can_hand = unchanged_can h.can_hand table same;
-  one_side = (let a = ap (count (left_slot p.node)) same.sides in let b = ap (count (right_slot p.node)) same.sides in let c = h.one_side in omega arith);
+  one_side = (let a = ap (count (left_slot p.node)) same.sides in let b = ap (count (right_slot p.node)) same.sides in
+      let c = h.one_side in omega arith);
 }
 
 -- the sides of the two halves
-pub few_left : {T : Type 0} (node half : ℕ) (v2 v3 : View T) → v3 ≡ rest_view node 1 half (right_slot node ∷ []) v2 → (k : ℕ) → count k v3.sides ≤ count k v2.sides
-few_left node half v2 v3 rest k = let e : count k v3.sides ≡ count k (less (right_slot node) v2.sides) = ap (λ (u : View _). count k u.sides) rest in let l = less_le k (right_slot node) v2.sides in omega arith
+pub few_left : {T : Type 0} (node half : ℕ) (v2 v3 : View T) → v3 ≡ rest_view node 1 half (right_slot node ∷ []) v2
+    → (k : ℕ) → count k v3.sides ≤ count k v2.sides
+few_left node half v2 v3 rest k = let e : count k v3.sides ≡ count k (less (right_slot node) v2.sides) =
+    ap (λ (u : View _). count k u.sides) rest in let l = less_le k (right_slot node) v2.sides in omega arith
 
-pub few_right : {T : Type 0} (node half : ℕ) (onward : List ℕ) (tag : T) (q : Option (ℕ × (ℕ × (ℕ × T)))) (v1 v2 v4 : View T) → v2 ≡ paired_view node onward tag q v1 → v4 ≡ part_view node 1 half (right_slot node ∷ []) v2 → (k : ℕ) → count k v4.sides ≤ count k v2.sides
+pub few_right : {T : Type 0} (node half : ℕ) (onward : List ℕ) (tag : T) (q : Option (ℕ × (ℕ × (ℕ × T))))
+    (v1 v2 v4 : View T) → v2 ≡ paired_view node onward tag q v1 → v4 ≡ part_view node 1 half (right_slot node ∷ []) v2
+    → (k : ℕ) → count k v4.sides ≤ count k v2.sides
 few_right node half onward tag q v1 v2 v4 is part k =
     let e : count k v4.sides ≡ count k (right_slot node ∷ []) = ap (λ (u : View _). count k u.sides) part in
-    let f : count k v2.sides ≡ count k (left_slot node ∷ right_slot node ∷ minus (sides_of onward v1.sides) v1.sides) = ap (λ (u : View _). count k u.sides) is in
+    let f : count k v2.sides ≡ count k (left_slot node ∷ right_slot node ∷ minus (sides_of onward v1.sides) v1.sides) =
+    ap (λ (u : View _). count k u.sides) is in
     omega arith

@@ -26,7 +26,8 @@ pub record HasMoved {T : Type 0} (at p : Place T) (v w : View T) : Type 0 where
   pub root : p.root ≡ at.root
   pub smaller : p.node < at.node
   pub held : (j : ℕ) → count j w.held + count j (at.node ∷ []) ≡ count j (p.node ∷ []) + count j v.held
-  pub sides : (j : ℕ) → count j w.sides + count j (slot_of at.node at.side ∷ []) ≡ count j (slot_of p.node p.side ∷ []) + count j v.sides
+  pub sides : (j : ℕ) → count j w.sides + count j (slot_of at.node at.side ∷ [])
+      ≡ count j (slot_of p.node p.side ∷ []) + count j v.sides
   pub noted : w.noted ≡ v.noted
   pub noted_sides : w.noted_sides ≡ v.noted_sides
   pub places : w.places ≡ v.places
@@ -40,7 +41,8 @@ module _ {V K T : Type 0} {g : Ghosts K V T} where
     pub next : (p : Place T) → g.place_of finisher.finish.kept ≡ Some p → CanHand id p seat
 
   -- The last arrival at this place: the finisher is the one of its node, and the seat has what the node kept.
-  pub record HasArrived (counts : Counts V K T) (at : Place T) (seat later : Seat V K T g) (finisher : Finisher V K) : Type 0 where
+  pub record HasArrived (counts : Counts V K T) (at : Place T) (seat later : Seat V K T g)
+      (finisher : Finisher V K) : Type 0 where
     pub can : CanFinish counts.table.shared.table_id later finisher
     pub tag : g.tag_of finisher.finish.kept ≡ at.tag
     pub moved : (p : Place T) → g.place_of finisher.finish.kept ≡ Some p → HasMoved at p (view_of seat) (view_of later)
@@ -50,13 +52,15 @@ module _ {V K T : Type 0} {g : Ghosts K V T} where
 
   -- the arrival at this place, where n were owed and not made
   abbrev pub IsHandedAt : Counts V K T → Place T → Seat V K T g → ℕ → Seat V K T g → Type 0
-  IsHandedAt counts at seat n later = IsHanded g.fits g.tag_of g.place_of (nodes_of counts) (actor_of seat) at.node (slot_of at.node at.side) (view_of seat) n (view_of later)
+  IsHandedAt counts at seat n later = IsHanded g.fits g.tag_of g.place_of (nodes_of counts) (actor_of seat) at.node
+      (slot_of at.node at.side) (view_of seat) n (view_of later)
 
   -- the arrival at this place was made
   pub record WasHanded (counts : Counts V K T) (at : Place T) (seat : Seat V K T g) : Type 0 where
     pub owed : ℕ
     pub after : View T
-    pub handed : IsHanded g.fits g.tag_of g.place_of (nodes_of counts) (actor_of seat) at.node (slot_of at.node at.side) (view_of seat) owed after
+    pub handed : IsHanded g.fits g.tag_of g.place_of (nodes_of counts) (actor_of seat) at.node (slot_of at.node at.side)
+        (view_of seat) owed after
 
   -- An arrival of the seat's at some place was made, which wasn't the last there, and nothing after it.
   pub record WasPending (counts : Counts V K T) (seat later : Seat V K T g) : Type 0 where
@@ -64,7 +68,8 @@ module _ {V K T : Type 0} {g : Ghosts K V T} where
     pub before : View T
     pub owed : ℕ
     pub others : owed ≢ 1
-    pub handed : IsHanded g.fits g.tag_of g.place_of (nodes_of counts) (actor_of seat) place.node (slot_of place.node place.side) before owed (view_of later)
+    pub handed : IsHanded g.fits g.tag_of g.place_of (nodes_of counts) (actor_of seat) place.node
+        (slot_of place.node place.side) before owed (view_of later)
 
   -- the seat that comes back, and what is answered, as the machine says it
   abbrev pub first_seat : First V K T g → Seat V K T g

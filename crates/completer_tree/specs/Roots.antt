@@ -41,16 +41,20 @@ module _ {T : Type 0} where
     pub root : p.root ≡ root_of at p.node
     pub above : (i : ℕ) (given : List ℕ) → note_of i v.noted ≡ Some given → i < p.node
     pub noted : (given : List ℕ) → root_note at onward v.noted ≡ Some given → note_of p.root w.noted ≡ Some given
-    pub noted_sides : (given : List ℕ) → root_note at (sides_of onward v.sides) v.noted_sides ≡ Some given → note_of p.root w.noted_sides ≡ Some given
+    pub noted_sides : (given : List ℕ) → root_note at (sides_of onward v.sides) v.noted_sides ≡ Some given
+        → note_of p.root w.noted_sides ≡ Some given
     pub only_own : (k : ℕ) → count k w.sides ≤ count k (left_slot p.node ∷ right_slot p.node ∷ []) + count k v.sides
     pub still_noted : (i : ℕ) (given : List ℕ) → note_of i v.noted ≡ Some given → note_of i w.noted ≡ Some given
-    pub still_noted_sides : (i : ℕ) (given : List ℕ) → note_of i v.noted_sides ≡ Some given → note_of i w.noted_sides ≡ Some given
+    pub still_noted_sides : (i : ℕ) (given : List ℕ) → note_of i v.noted_sides ≡ Some given
+        → note_of i w.noted_sides ≡ Some given
 
   -- The result of the tree was given here: the seat has what the top kept instead of the arrival at this place, and it
   -- notes what it noted.
   pub record HasKept (p : Place T) (v w : View T) : Type 0 where
-    pub held : (given : List ℕ) → note_of p.root v.noted ≡ Some given → (j : ℕ) → count j w.held + count j (p.node ∷ []) ≡ count j given + count j v.held
-    pub sides : (given : List ℕ) → note_of p.root v.noted_sides ≡ Some given → (j : ℕ) → count j w.sides + count j (slot_of p.node p.side ∷ []) ≡ count j given + count j v.sides
+    pub held : (given : List ℕ) → note_of p.root v.noted ≡ Some given → (j : ℕ)
+        → count j w.held + count j (p.node ∷ []) ≡ count j given + count j v.held
+    pub sides : (given : List ℕ) → note_of p.root v.noted_sides ≡ Some given → (j : ℕ)
+        → count j w.sides + count j (slot_of p.node p.side ∷ []) ≡ count j given + count j v.sides
     pub noted : w.noted ≡ v.noted
     pub noted_sides : w.noted_sides ≡ v.noted_sides
     pub places : w.places ≡ v.places

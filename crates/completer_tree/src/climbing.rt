@@ -80,7 +80,7 @@ impl<T: PartValue, C: Continuation<T>> Finisher<Handed<T>, Completer<T, C>> {
     }
 }
 
-// What the continuations of a node make of its two sides.
+/// What the continuations of a node make of its two sides.
 fn answer_of<T: PartValue, C: Continuation<T>>(
     left: Handed<T>,
     right: Handed<T>,
@@ -242,7 +242,7 @@ impl<'a, T: PartValue, C: Continuation<T>> Tree<'a, Handed<T>, Completer<T, C>> 
     }
 }
 
-// Finishes node after node upwards, while each arrival is the last.
+/// Finishes node after node upwards, while each arrival is the last.
 #[cycle(climb)]
 fn climb<T: PartValue, C: Continuation<T>, L: Looker<T>>(
     tree: &CompleterTree<T, C>,

@@ -9,6 +9,8 @@
 //! Begin with `continuation.rt` and `specs/Places.antt`, then `specs/Trees.antt`, `tree.rt` and `climbing.rt`;
 //! docs/completers.md has a worked picture. Proved callers and tests are in the crate `test_completers`.
 //! Not promised: that a result ever comes, since a seat may be dropped. No call allocates or waits.
+//!
+//! Tested: `paths.rt`, `runs.rt`, `trees.rt`, `walks.rt` of `test_completers`; runs of the programs in `tests`.
 #![tactic(auto)]
 
 mod climbing;

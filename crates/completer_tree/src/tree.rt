@@ -89,7 +89,7 @@ impl<'a, T: PartValue, C: Continuation<T>> Tree<'a, Handed<T>, Completer<T, C>> 
     }
 }
 
-// The number of the parent, which is 0 for a top, and the number of the top.
+/// The number of the parent, which is 0 for a top, and the number of the top.
 fn above<T: Copy>(at: Option<Place<T>>, node: Node) -> (Node, Node)
     ensures { (result.0 ≡ parent_of at) × (result.1 ≡ root_of at node) }
 {
@@ -99,7 +99,7 @@ fn above<T: Copy>(at: Option<Place<T>>, node: Node) -> (Node, Node)
     }
 }
 
-// Forks as `Tree::fork` does; the new node keeps an arrival for each entry of `onward`.
+/// Forks as `Tree::fork` does; the new node keeps an arrival for each entry of `onward`.
 fn fork_keeping<T: PartValue, C: Continuation<T>>(
     counts: &TreeCounts<T, C>,
     seat: TreeSeat<T, C>,

@@ -1,5 +1,6 @@
 -- Condition: what the store of a graph keeps, and which graphs it may mean.
-use Rattle.std.specs.Prelude.{◌≡◌, ℕ, ◌+◌, ◌<◌, ◌≤◌, ◌^◌, Bool, false, ◌&&◌, List, [], length, None, nat_eq, unwrap_or, slice_index_or}
+use Rattle.std.specs.Prelude.{◌≡◌, ℕ, ◌+◌, ◌<◌, ◌≤◌, ◌^◌, Bool, false, ◌&&◌, List, [], length, None, nat_eq, unwrap_or}
+use Rattle.std.specs.Prelude.{slice_index_or}
 use Rattle.std.specs.Map.{lookup}
 use Rattle.completion_core.specs.declared.node_state.NodeState.{NodeState}
 use Rattle.completion_core.specs.Graph.{Held, Kept, amount, left, Graph}

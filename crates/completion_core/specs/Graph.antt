@@ -1,7 +1,8 @@
 -- Design: the graph of completers: its nodes, and the arrivals owed to each.
 -- Each arrival has a name, which is its node and its place in that node's list; it keeps it for ever.
 -- Java SE 17, CountedCompleter: the pending count of a node is the number of its arrivals that aren't made, less one.
-use Rattle.std.specs.Prelude.{ℕ, zero, suc, ◌+◌, ◌<◌, ◌≤◌, ◌==◌, Bool, true, false, List, [], ◌∷◌, Option, None, if◌then◌else◌}
+use Rattle.std.specs.Prelude.{ℕ, zero, suc, ◌+◌, ◌<◌, ◌≤◌, ◌==◌, Bool, true, false, List, [], ◌∷◌, Option, None}
+use Rattle.std.specs.Prelude.{if◌then◌else◌}
 
 -- an arrival was made, or it is held by an actor who has it to make, or a node keeps it until that node runs
 pub data Arrival : Type 0 where

@@ -28,7 +28,8 @@ RunsOnce log = AllPairs (λ node later. node ≢ later) log
 abbrev pub RunsAfterAll : List Action → Graph → Type 0
 RunsAfterAll actions g =
     (before later : List Action) (a node : ℕ) → actions ≡ before ++ Run a node ∷ later
-    → (0 < node) × All (λ arrival. arrival ≡ Made) ((after_all before g).arrivals node) × All (λ action. ¬ IsAt node action) later
+    → (0 < node) × All (λ arrival. arrival ≡ Made) ((after_all before g).arrivals node)
+    × All (λ action. ¬ IsAt node action) later
 
 -- helper: the arrival of this name: its node, and its place there
 abbrev pub arrival_at : Graph → ℕ → ℕ → Option Arrival
@@ -41,4 +42,6 @@ MadeOnce actions g =
     → let old : Graph = after_all before g in
     let new : Graph = after action old in
     (arrival_at old i place ≡ Some Made → arrival_at new i place ≡ Some Made)
-    × (arrival_at new i place ≡ Some Made → (arrival_at old i place ≡ Some Made) ⊎ ((a : ℕ) × (arrival_at old i place ≡ Some (Held a)) × MakesAt a i action))
+    × (arrival_at new i place ≡ Some Made
+    → (arrival_at old i place ≡ Some Made)
+    ⊎ ((a : ℕ) × (arrival_at old i place ≡ Some (Held a)) × MakesAt a i action))

@@ -2,7 +2,8 @@
 -- Java SE 17, CountedCompleter: `tryComplete` is Arrive and, after Last, Run and `tryComplete` at what the node kept;
 -- `propagateCompletion` does it without continuations; `nextComplete` is Run and Arrive at what the node kept. Where an
 -- action moves some of the arrivals that an actor holds at a node, it moves the first of them.
-use Rattle.std.specs.Prelude.{◌≡◌, ℕ, zero, suc, ◌+◌, ◌<◌, ◌≤◌, ◌==◌, true, false, List, [], ◌∷◌, ◌++◌, Some, ⊤, nat_lt, if◌then◌else◌}
+use Rattle.std.specs.Prelude.{◌≡◌, ℕ, zero, suc, ◌+◌, ◌<◌, ◌≤◌, ◌==◌, true, false, List, [], ◌∷◌, ◌++◌, Some, ⊤, nat_lt}
+use Rattle.std.specs.Prelude.{if◌then◌else◌}
 use Rattle.completion_core.specs.declared.action.Action.{Action}
 use Rattle.completion_core.specs.declared.action.Action.TheVariants.{Claim, Arm, Add, Give, Arrive, Run, Settle}
 use Rattle.completion_core.specs.declared.action.Reply.{Reply}

@@ -3,7 +3,8 @@ use Rattle.std.specs.Prelude.{◌≡◌, ℕ, ◌+◌, ◌<◌, ◌≤◌, ◌^�
 use Rattle.completion_core.specs.declared.action.Action.{Action}
 use Rattle.completion_core.specs.declared.action.Action.TheVariants.{Claim, Arm, Add, Give, Arrive, Run, Settle}
 use Rattle.completion_core.specs.declared.action.Illegal.{Illegal}
-use Rattle.completion_core.specs.declared.action.Illegal.TheVariants.{NoSuchNode, NotClaimedHere, AlreadyArmed, NotHeld, NotFinisher, OnwardNotEarlier, TooMany, NoMemory}
+use Rattle.completion_core.specs.declared.action.Illegal.TheVariants.{NoSuchNode, NotClaimedHere, AlreadyArmed, NotHeld}
+use Rattle.completion_core.specs.declared.action.Illegal.TheVariants.{NotFinisher, OnwardNotEarlier, TooMany, NoMemory}
 use Rattle.completion_core.specs.Graph.{Held, Kept, amount, left, Graph, IsDrawn}
 use Rattle.completion_core.specs.Legal.{count}
 use Rattle.completion_core.specs.Runs.{LegalAll, after_all}
@@ -63,4 +64,5 @@ abbrev pub IsFirstRefused : ℕ → Illegal → List Action → Graph → Type 0
 IsFirstRefused index reason actions g =
     (action : Action) × (slice_get actions index ≡ Some action)
     × LegalAll (take index actions) g
-    × (IsRefusal reason action (after_all (take index actions) g) ⊎ LacksLog reason action (after_all (take index actions) g))
+    × (IsRefusal reason action (after_all (take index actions) g)
+    ⊎ LacksLog reason action (after_all (take index actions) g))

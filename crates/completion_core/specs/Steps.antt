@@ -16,11 +16,13 @@ IsAllowed action b = (g : Graph) → StandsFor b g → Legal action g × Meets T
 
 -- the answer says whether it may, and else why not
 abbrev pub IsChecked : Action → Book → Result (Unit {0}) Illegal → Type 0
-IsChecked action b result = (g : Graph) → StandsFor b g → MatchResult result (λ _. Legal action g × Meets TooMany action g) (λ reason. IsRefusal reason action g)
+IsChecked action b result = (g : Graph) → StandsFor b g
+    → MatchResult result (λ _. Legal action g × Meets TooMany action g) (λ reason. IsRefusal reason action g)
 
 -- the action was taken
 abbrev pub IsTaken : Action → Book → Book → Reply → Type 0
-IsTaken action old new answer = (g : Graph) → StandsFor old g → (answer ≡ reply action g) × StandsFor new (after action g)
+IsTaken action old new answer = (g : Graph) → StandsFor old g
+    → (answer ≡ reply action g) × StandsFor new (after action g)
 
 -- the action needs memory, which may be refused
 abbrev pub MayWant : Action → Book → Type 0

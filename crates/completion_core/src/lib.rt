@@ -14,6 +14,9 @@
 //! Begin with `specs/Graph.antt`, then `specs/Legal.antt`, `specs/Refusals.antt` and `stepping.rt`. `graph.rt` and
 //! `specs/Book.antt` have what is stored, and which graphs a store may mean. Tests are in the crate `test_completers`.
 //! Not promised: that a last arrival ever comes.
+//!
+//! Tested: `counting.rt`, `machine.rt`, `paths.rt`, `random_tree.rt`, `trees.rt` of `test_completers`; runs of the
+//! programs in `tests`.
 #![tactic(auto)]
 
 mod action;

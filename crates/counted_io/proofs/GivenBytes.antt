@@ -5,7 +5,8 @@ use Rattle.std.specs.Io.KnownBytes.{Consumes}
 use Rattle.counted_io.specs.CountedRead.{HasGiven}
 
 -- two reads in a row gave the bytes of the first and then the bytes of the second
-pub Consumes-append : (a b c : Option (List ℕ)) (xs ys : List ℕ) → Consumes a b xs → Consumes b c ys → Consumes a c (xs ++ ys)
+pub Consumes-append : (a b c : Option (List ℕ)) (xs ys : List ℕ) → Consumes a b xs → Consumes b c ys
+    → Consumes a c (xs ++ ys)
 Consumes-append None b c xs ys p q = tt
 Consumes-append (Some l) None c xs ys p q = absurd p
 Consumes-append (Some l) (Some m) None xs ys p q = absurd q

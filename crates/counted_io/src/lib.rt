@@ -10,6 +10,9 @@
 //! Begin with `specs/FailureCounts.antt`, then `counted_read.rt` and `counted_write.rt`.
 //!
 //! Not promised: what a file gives, and that an interrupted call is tried again; the tests show that it is.
+//!
+//! Tested: `runs.rt`, `shown.rt`, `writers.rt` of `test_engine`; `decimals.rt`, `messages.rt`, `pieces.rt`,
+//! `readers.rt` of `test_low`; runs of the programs in `tests`.
 #![tactic(auto)]
 
 mod counted_read;

@@ -1,5 +1,7 @@
 -- Each step keeps the rule, and its pass learns what its clause says.
-use Rattle.std.proofs.Common.{◌≡◌, ◌≢◌, ℕ, zero, suc, ◌+◌, ◌<◌, ◌≤◌, min, Bool, true, false, cond, eqb, List, [], ◌∷◌, ◌++◌, length, map, set, sym, refl, ap, ◌∙◌, subst, ⊎_elim, arith, eq-eqb, ne_eqb, Option, Some, None, ◌⊎◌, inl, inr, length-set, length-append}
+use Rattle.std.proofs.Common.{◌≡◌, ◌≢◌, ℕ, zero, suc, ◌+◌, ◌<◌, ◌≤◌, min, Bool, true, false, cond, eqb, List, [], ◌∷◌}
+use Rattle.std.proofs.Common.{◌++◌, length, map, set, sym, refl, ap, ◌∙◌, subst, ⊎_elim, arith, eq-eqb, ne_eqb, Option}
+use Rattle.std.proofs.Common.{Some, None, ◌⊎◌, inl, inr, length-set, length-append}
 use mathlib.Core.Option.{some, some-ne-none}
 use mathlib.Core.List.{map-append}
 use lib.ListN.{get_elem?}
@@ -9,7 +11,8 @@ use Rattle.deques.specs.declared.calls.Call.{Call}
 use Rattle.deques.specs.declared.calls.Call.TheVariants.{Added, Newest, Oldest}
 use Rattle.deques.specs.declared.calls.Calls.{Calls}
 use Rattle.deques.specs.Tasks.{Entry, Step, Does, Leads, calls_of, calls_by, number_out, NotOut, IsStep}
-use Rattle.deques.specs.Rule.{calls, none_yet, IsIn, AllIn, Lacks, Apart, Kept, Adds, Hands, FoundEmpty, FoundNearlyEmpty}
+use Rattle.deques.specs.Rule.{calls, none_yet, IsIn, AllIn, Lacks, Apart, Kept, Adds, Hands, FoundEmpty}
+use Rattle.deques.specs.Rule.{FoundNearlyEmpty}
 
 there : {A : Type 0} (l : List A) (i : ℕ) (a : A) → get_elem? l i ≡ some a → i < length l
 there [] i a e = absurd (some-ne-none a (sym e))
@@ -17,11 +20,13 @@ there (x ∷ xs) zero a e = omega arith
 there (x ∷ xs) (suc i) a e = let h = there xs i a e in omega arith
 
 -- what stands in a list with one more at its end
-snoc_cases : {A : Type 0} (l : List A) (a b : A) (j : ℕ) → get_elem? (l ++ a ∷ []) j ≡ some b → (get_elem? l j ≡ some b) ⊎ ((length l ≤ j) × (a ≡ b))
+snoc_cases : {A : Type 0} (l : List A) (a b : A) (j : ℕ) → get_elem? (l ++ a ∷ []) j ≡ some b
+    → (get_elem? l j ≡ some b) ⊎ ((length l ≤ j) × (a ≡ b))
 snoc_cases [] a b zero e = ⊎_elim (λ x. inl x) (λ x. inr (omega arith, x)) (at_snoc [] a b zero e)
 snoc_cases [] a b (suc j) e = absurd (some-ne-none b (sym e))
 snoc_cases (x ∷ xs) a b zero e = inl e
-snoc_cases (x ∷ xs) a b (suc j) e = ⊎_elim (λ x. inl x) (λ x. let h = x.0 in inr (omega arith, x.1)) (snoc_cases xs a b j e)
+snoc_cases (x ∷ xs) a b (suc j) e = ⊎_elim (λ x. inl x) (λ x. let h = x.0 in inr (omega arith, x.1))
+    (snoc_cases xs a b j e)
 
 abbrev head_of : {A : Type 0} → A → List A → A
 head_of d [] = d
@@ -63,7 +68,8 @@ module _ {T : Type 0} where
 
   by-append : (p : ℕ) (xs ys : List (Step T)) → calls_by p (xs ++ ys) ≡ calls_by p xs ++ calls_by p ys
   by-append p [] ys = refl
-  by-append p (s ∷ ss) ys = ap (λ l. cond (eqb s.0 p) (s.1 ∷ l) l) (by-append p ss ys) ∙ one_more (eqb s.0 p) s.1 (calls_by p ss) (calls_by p ys)
+  by-append p (s ∷ ss) ys = ap (λ l. cond (eqb s.0 p) (s.1 ∷ l) l) (by-append p ss ys)
+      ∙ one_more (eqb s.0 p) s.1 (calls_by p ss) (calls_by p ys)
 
   by_mine : (p : ℕ) (c : Call T) → calls_by p ((p, c) ∷ []) ≡ c ∷ []
   by_mine p c = ap (λ b. cond b (c ∷ []) []) (eq-eqb p p refl)
@@ -75,25 +81,36 @@ module _ {T : Type 0} where
   append_nil [] = refl
   append_nil (x ∷ xs) = ap (λ l. x ∷ l) (append_nil xs)
 
-  leads_more : (n : ℕ) (from mid to : List (Entry T)) (cs : List (Call T)) (c : Call T) → Leads n from cs mid → Does (n + length cs) mid c to → Leads n from (cs ++ c ∷ []) to
-  leads_more n from mid to [] c e d = (to, subst (λ (l : List (Entry T)). Does n l c to) (sym e) (subst (λ (k : ℕ). Does k mid c to) (omega arith) d), refl)
-  leads_more n from mid to (x ∷ xs) c h d = (h.0, h.1, leads_more (suc n) h.0 mid to xs c h.2 (subst (λ (k : ℕ). Does k mid c to) (omega arith) d))
+  leads_more : (n : ℕ) (from mid to : List (Entry T)) (cs : List (Call T)) (c : Call T) → Leads n from cs mid
+      → Does (n + length cs) mid c to → Leads n from (cs ++ c ∷ []) to
+  leads_more n from mid to [] c e d = (
+    to,
+    subst (λ (l : List (Entry T)). Does n l c to) (sym e) (subst (λ (k : ℕ). Does k mid c to) (omega arith) d),
+    refl,
+  )
+  leads_more n from mid to (x ∷ xs) c h d =
+      (h.0, h.1, leads_more (suc n) h.0 mid to xs c h.2 (subst (λ (k : ℕ). Does k mid c to) (omega arith) d))
 
   -- a task that is held stays so where another call is made that doesn't hand it out
-  not_out_more : (k : ℕ) (log : List (Step T)) (s : Step T) → number_out s.1 ≢ Some k → NotOut k log → NotOut k (log ++ s ∷ [])
+  not_out_more : (k : ℕ) (log : List (Step T)) (s : Step T) → number_out s.1 ≢ Some k → NotOut k log
+      → NotOut k (log ++ s ∷ [])
   not_out_more k [] s n h = (n, tt)
   not_out_more k (x ∷ xs) s n h = (h.0, not_out_more k xs s n h.1)
 
-  in_more : (log : List (Step T)) (s : Step T) (e : Entry T) → number_out s.1 ≢ Some e.0 → IsIn log e → IsIn (log ++ s ∷ []) e
+  in_more : (log : List (Step T)) (s : Step T) (e : Entry T) → number_out s.1 ≢ Some e.0 → IsIn log e
+      → IsIn (log ++ s ∷ []) e
   in_more log s e n h = ((h.0.0, at_longer log (s ∷ []) e.0 _ h.0.1), not_out_more e.0 log s n h.1)
 
-  all_more_added : (log : List (Step T)) (p : ℕ) (x : T) (es : List (Entry T)) → AllIn log es → AllIn (log ++ (p, Added x) ∷ []) es
+  all_more_added : (log : List (Step T)) (p : ℕ) (x : T) (es : List (Entry T)) → AllIn log es
+      → AllIn (log ++ (p, Added x) ∷ []) es
   all_more_added log p x [] h = tt
   all_more_added log p x (e ∷ es) h = (in_more log (p, Added x) e (none_is e.0) h.0, all_more_added log p x es h.1)
 
-  all_more_out : (log : List (Step T)) (s : Step T) (k : ℕ) → number_out s.1 ≡ Some k → (es : List (Entry T)) → Lacks k es → AllIn log es → AllIn (log ++ s ∷ []) es
+  all_more_out : (log : List (Step T)) (s : Step T) (k : ℕ) → number_out s.1 ≡ Some k → (es : List (Entry T))
+      → Lacks k es → AllIn log es → AllIn (log ++ s ∷ []) es
   all_more_out log s k is [] n h = tt
-  all_more_out log s k is (e ∷ es) n h = (in_more log s e (λ x. n.0 (sym (some_is k e.0 (sym is ∙ x)))) h.0, all_more_out log s k is es n.1 h.1)
+  all_more_out log s k is (e ∷ es) n h =
+      (in_more log s e (λ x. n.0 (sym (some_is k e.0 (sym is ∙ x)))) h.0, all_more_out log s k is es n.1 h.1)
 
   all_both : (log : List (Step T)) (es fs : List (Entry T)) → AllIn log es → AllIn log fs → AllIn log (es ++ fs)
   all_both log [] fs a b = b
@@ -126,22 +143,28 @@ module _ {T : Type 0} where
 
   apart_less : (f : Entry T) (es : List (Entry T)) → Apart (es ++ f ∷ []) → Apart es × Lacks f.0 es
   apart_less f [] h = (tt, tt)
-  apart_less f (e ∷ es) h = let r = apart_less f es h.1 in let l = lacks_less e.0 f es h.0 in ((l.0, r.0), ((λ is. l.1 (sym is)), r.1))
+  apart_less f (e ∷ es) h = let r = apart_less f es h.1 in let l = lacks_less e.0 f es h.0 in
+      ((l.0, r.0), ((λ is. l.1 (sym is)), r.1))
 
   -- the last of the tasks held, and the first
-  last_entry : (items : List T) (x : T) (es : List (Entry T)) → map task es ≡ items ++ x ∷ [] → (left : List (Entry T)) × (k : ℕ) × (es ≡ left ++ (k, x) ∷ []) × (map task left ≡ items)
+  last_entry : (items : List T) (x : T) (es : List (Entry T)) → map task es ≡ items ++ x ∷ []
+      → (left : List (Entry T)) × (k : ℕ) × (es ≡ left ++ (k, x) ∷ []) × (map task left ≡ items)
   last_entry [] x [] h = absurd (cons_ne_nil x [] (sym h))
   last_entry [] x (e ∷ []) h = ([], e.0, (λ i. (e.0, ap (head_of x) h i) ∷ []), refl)
   last_entry [] x (e ∷ f ∷ fs) h = absurd (cons_ne_nil f.1 (map task fs) (ap tail_of h))
   last_entry (y ∷ ys) x [] h = absurd (cons_ne_nil y (ys ++ x ∷ []) (sym h))
-  last_entry (y ∷ ys) x (e ∷ es) h = let r = last_entry ys x es (ap tail_of h) in (e ∷ r.0, r.1, ap (λ l. e ∷ l) r.2, λ i. ap (head_of x) h i ∷ r.3 i)
+  last_entry (y ∷ ys) x (e ∷ es) h = let r = last_entry ys x es (ap tail_of h) in
+      (e ∷ r.0, r.1, ap (λ l. e ∷ l) r.2, λ i. ap (head_of x) h i ∷ r.3 i)
 
-  first_entry : (items : List T) (x : T) (es : List (Entry T)) → map task es ≡ x ∷ items → (left : List (Entry T)) × (k : ℕ) × (es ≡ (k, x) ∷ left) × (map task left ≡ items)
+  first_entry : (items : List T) (x : T) (es : List (Entry T)) → map task es ≡ x ∷ items
+      → (left : List (Entry T)) × (k : ℕ) × (es ≡ (k, x) ∷ left) × (map task left ≡ items)
   first_entry items x [] h = absurd (cons_ne_nil x items (sym h))
   first_entry items x (e ∷ es) h = (es, e.0, (λ i. (e.0, ap (head_of x) h i) ∷ es), ap tail_of h)
 
   -- one call of one pass
-  module _ (items : List T) (views : List (Calls T)) (r : Kept items views) (port : ℕ) (v : Calls T) (at : get_elem? views port ≡ some v) (c : Call T) (left : List (Entry T)) (does : Does (length r.log) r.held c left) where
+  module _ (items : List T) (views : List (Calls T)) (r : Kept items views) (port : ℕ) (v : Calls T)
+      (at : get_elem? views port ≡ some v) (c : Call T) (left : List (Entry T))
+      (does : Does (length r.log) r.held c left) where
     abbrev w : Calls T
     w = calls (v.list ++ c ∷ [])
 
@@ -167,18 +190,24 @@ module _ {T : Type 0} where
     length-calls [] = refl
     length-calls (x ∷ xs) = let e = length-calls xs in omega arith
 
-    goes : (rest : List T) → map task left ≡ rest → ((k : ℕ) → length r.log ≤ k → number_out c ≢ Some (suc k)) → AllIn after left → Apart left → Kept rest (set views port w)
+    goes : (rest : List T) → map task left ≡ rest → ((k : ℕ) → length r.log ≤ k → number_out c ≢ Some (suc k))
+        → AllIn after left → Apart left → Kept rest (set views port w)
     goes rest is low inside apart = record {
       log = after;
       held = left;
-      legal = subst (λ l. Leads 0 [] l left) (sym same_calls) (leads_more 0 [] r.held left (calls_of r.log) c r.legal (subst (λ (k : ℕ). Does k r.held c left) (let e = length-calls r.log in omega arith) does));
+      legal = subst (λ l. Leads 0 [] l left) (sym same_calls)
+          (leads_more 0 [] r.held left (calls_of r.log) c r.legal
+          (subst (λ (k : ℕ). Does k r.held c left) (let e = length-calls r.log in omega arith) does));
       holds = is;
       own = λ j u e. by-append j r.log ((port, c) ∷ []) ∙ ⊎_elim
-          (λ (x : (j ≡ port) × (w ≡ u)). (λ i. calls_by (x.0 i) r.log ++ calls_by (x.0 i) ((port, c) ∷ [])) ∙ (λ i. r.own port v at i ++ by_mine port c i) ∙ ap (λ (y : Calls T). y.list) x.1)
-          (λ (x : (j ≢ port) × (get_elem? views j ≡ some u)). (λ i. r.own j u x.1 i ++ by_other port j c x.0 i) ∙ append_nil u.list)
+          (λ (x : (j ≡ port) × (w ≡ u)). (λ i. calls_by (x.0 i) r.log ++ calls_by (x.0 i) ((port, c) ∷ []))
+          ∙ (λ i. r.own port v at i ++ by_mine port c i) ∙ ap (λ (y : Calls T). y.list) x.1)
+          (λ (x : (j ≢ port) × (get_elem? views j ≡ some u)). (λ i. r.own j u x.1 i ++ by_other port j c x.0 i)
+          ∙ append_nil u.list)
           (at_set views port j w u e);
       known = λ j le. let n = length-set views port w in let lt = there views port v at in
-          by-append j r.log ((port, c) ∷ []) ∙ (λ i. r.known j (omega arith) i ++ by_other port j c (λ e. omega arith) i);
+          by-append j r.log ((port, c) ∷ [])
+          ∙ (λ i. r.known j (omega arith) i ++ by_other port j c (λ e. omega arith) i);
       fresh = λ k le. let n = length-append r.log ((port, c) ∷ []) in fresh_at k (omega arith);
       inside = inside;
       apart = apart;
@@ -194,8 +223,15 @@ module _ {T : Type 0} where
       let e : Entry T = (n, x) in
       let left : List (Entry T) = r.held ++ e ∷ [] in (
         w items views r port v at (Added x) left refl,
-        goes items views r port v at (Added x) left refl (items ++ x ∷ []) (map-append task r.held (e ∷ []) ∙ ap (λ l. l ++ x ∷ []) r.holds) (λ k le. none_is (suc k))
-            (all_both _ r.held (e ∷ []) (all_more_added r.log port x r.held r.inside) (((port, at_last r.log (port, Added x) n refl), not_out_more n r.log (port, Added x) (none_is n) (r.fresh n (omega arith))), tt))
+        goes items views r port v at (Added x) left refl (items ++ x ∷ [])
+            (map-append task r.held (e ∷ []) ∙ ap (λ l. l ++ x ∷ []) r.holds) (λ k le. none_is (suc k))
+            (all_both _ r.held (e ∷ []) (all_more_added r.log port x r.held r.inside) (
+              (
+                (port, at_last r.log (port, Added x) n refl),
+                not_out_more n r.log (port, Added x) (none_is n) (r.fresh n (omega arith)),
+              ),
+              tt,
+            ))
             (apart_more e r.held (lacks_new r.log n (omega arith) r.held r.inside) r.apart),
         says items views r port v at (Added x) left refl,
       )
@@ -209,7 +245,8 @@ module _ {T : Type 0} where
       let apart = apart_less (k, x) l.0 (subst Apart l.2 r.apart) in
       let lt = there r.log k _ one.0.1 in (
         w (items ++ x ∷ []) views r port v at (Newest k x) l.0 l.2,
-        goes (items ++ x ∷ []) views r port v at (Newest k x) l.0 l.2 items l.3 (λ j le e. let is = some_is k (suc j) e in omega arith)
+        goes (items ++ x ∷ []) views r port v at (Newest k x) l.0 l.2 items l.3
+            (λ j le e. let is = some_is k (suc j) e in omega arith)
             (all_more_out r.log (port, Newest k x) k refl l.0 apart.1 (all_left r.log l.0 ((k, x) ∷ []) inside))
             apart.0,
         record {
@@ -221,7 +258,8 @@ module _ {T : Type 0} where
         },
       )
 
-  takes_one : (port : ℕ) (v : Calls T) (x : T) (items : List T) (views : List (Calls T)) → Kept (x ∷ items) views → get_elem? views port ≡ some v → (w : Calls T) × Kept items (set views port w) × Hands Oldest v (x ∷ []) w
+  takes_one : (port : ℕ) (v : Calls T) (x : T) (items : List T) (views : List (Calls T)) → Kept (x ∷ items) views
+      → get_elem? views port ≡ some v → (w : Calls T) × Kept items (set views port w) × Hands Oldest v (x ∷ []) w
   takes_one port v x items views r at =
       let l = first_entry items x r.held r.holds in
       let k : ℕ = l.1 in
@@ -230,7 +268,8 @@ module _ {T : Type 0} where
       let apart : Apart ((k, x) ∷ l.0) = subst Apart l.2 r.apart in
       let lt = there r.log k _ one.0.1 in (
         w (x ∷ items) views r port v at (Oldest k x) l.0 l.2,
-        goes (x ∷ items) views r port v at (Oldest k x) l.0 l.2 items l.3 (λ j le e. let is = some_is k (suc j) e in omega arith)
+        goes (x ∷ items) views r port v at (Oldest k x) l.0 l.2 items l.3
+            (λ j le e. let is = some_is k (suc j) e in omega arith)
             (all_more_out r.log (port, Oldest k x) k refl l.0 apart.0 inside.1)
             apart.1,
         record {
@@ -282,7 +321,8 @@ module _ {T : Type 0} where
     held = [];
     legal = refl;
     holds = refl;
-    own = λ j u e. ⊎_elim (λ x. absurd (some-ne-none u (sym x))) (λ (x : none_yet ≡ u). ap (λ (y : Calls T). y.list) x) (at_snoc [] none_yet u j e);
+    own = λ j u e. ⊎_elim (λ x. absurd (some-ne-none u (sym x))) (λ (x : none_yet ≡ u). ap (λ (y : Calls T). y.list) x)
+        (at_snoc [] none_yet u j e);
     known = λ j le. refl;
     fresh = λ k le. tt;
     inside = tt;
@@ -295,7 +335,9 @@ module _ {T : Type 0} where
     held = r.held;
     legal = r.legal;
     holds = r.holds;
-    own = λ j u e. ⊎_elim (λ x. r.own j u x) (λ (x : (length views ≤ j) × (none_yet ≡ u)). r.known j x.0 ∙ ap (λ (y : Calls T). y.list) x.1) (snoc_cases views none_yet u j e);
+    own = λ j u e. ⊎_elim (λ x. r.own j u x)
+        (λ (x : (length views ≤ j) × (none_yet ≡ u)). r.known j x.0 ∙ ap (λ (y : Calls T). y.list) x.1)
+        (snoc_cases views none_yet u j e);
     known = λ j le. let n = length-append views (none_yet ∷ []) in r.known j (omega arith);
     fresh = r.fresh;
     inside = r.inside;

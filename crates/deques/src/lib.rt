@@ -8,6 +8,8 @@
 //! Begin with `specs/Tasks.antt`, then `src/owner.rt`; docs/workers.md says what a worker does with them.
 //! Not promised: that a push succeeds, though each among the first 64 calls of an owner does; who gets a task.
 //! Java SE 17: the work queues of `ForkJoinPool`.
+//!
+//! Tested: `handles.rt` of `test_low`; runs of the programs in `tests`.
 #![tactic(auto)]
 
 mod calls;

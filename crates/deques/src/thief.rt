@@ -11,7 +11,7 @@ use crossbeam_deque::{Steal, Stealer};
 use std::alloc::Global;
 
 impl<T> Thief<T> {
-    // A thief with a pass of its own.
+    /// A thief with a pass of its own.
     #[tactic(auto, using(crate::proofs::Keeps::admits))]
     pub(crate) fn of(stealer: Stealer<T, Global, Calls<T>, History>) -> Thief<T>
         ensures { (stealer_deque result.stealer ≡ stealer_deque stealer) × (thief_calls result ≡ []) }

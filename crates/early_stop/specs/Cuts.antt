@@ -1,5 +1,6 @@
 -- Design: the words of early stop, the views of its seats, and what each call is.
-use Rattle.std.specs.Prelude.{◌≡◌, ℕ, ◌<◌, ◌≤◌, ◌==◌, min, List, [], ◌∷◌, ◌++◌, length, slice_index_or, slice_set, replicate, if◌then◌else◌}
+use Rattle.std.specs.Prelude.{◌≡◌, ℕ, ◌<◌, ◌≤◌, ◌==◌, min, List, [], ◌∷◌, ◌++◌, length, slice_index_or, slice_set}
+use Rattle.std.specs.Prelude.{replicate, if◌then◌else◌}
 use mathlib.Core.Option.{some}
 use lib.ListN.{get_elem?}
 use Rattle.atomic_table.specs.Table.{State, Me, Step, opening}
@@ -49,7 +50,8 @@ pub record Ruled (decides : ℕ → ℕ → Type 0) (words : ℕ) (s : Board) : 
   pub size : length s.words ≡ words
   pub word : (i : ℕ) → i < words → slice_index_or s.words i 0 ≡ least_lowered i s.views
   pub decisive : (i : ℕ) → i < words → decides i (slice_index_or s.words i 0)
-  pub known : (i : ℕ) → i < words → (a : ℕ) (v : KnownPlaces) → get_elem? s.views a ≡ some v → slice_index_or s.words i 0 ≤ least i v.known
+  pub known : (i : ℕ) → i < words → (a : ℕ) (v : KnownPlaces) → get_elem? s.views a ≡ some v
+      → slice_index_or s.words i 0 ≤ least i v.known
 
 -- One atomic step of the actor's, on the word i, which had n and then has n'. Its view was v and then is w, and nothing
 -- else changed.
@@ -68,17 +70,23 @@ pub record IsLowered (decides : ℕ → ℕ → Type 0) (words actor i p : ℕ) 
   pub found : ℕ
   pub one_step : OneStep decides words i found (min found p) actor v w
 
-pub record IsSeen (decides : ℕ → ℕ → Type 0) (words actor i : ℕ) (v : KnownPlaces) (n : ℕ) (w : KnownPlaces) : Type 0 where
+pub record IsSeen (decides : ℕ → ℕ → Type 0) (words actor i : ℕ) (v : KnownPlaces) (n : ℕ) (w : KnownPlaces) : Type
+    0 where
   pub view : w ≡ seen_view i n v
   pub decisive : decides i n
   pub known : n ≤ least i v.known
   pub one_step : OneStep decides words i n n actor v w
 
--- a split adds one view and changes nothing else, whatever the words and the other views are; that the new view is of the
+-- a split adds one view and changes nothing else, whatever the words and the other views are; that the new view is of
+-- the
 -- second seat's own actor isn't said
 abbrev pub IsSplit : (ℕ → ℕ → Type 0) → ℕ → KnownPlaces → KnownPlaces → KnownPlaces → Type 0
 IsSplit decides words v rest part = (s : Board) (actor : ℕ) → Ruled decides words s → get_elem? s.views actor ≡ some v
-    → Ruled decides words (record { words = s.words; homes = s.homes; views = slice_set s.views actor rest ++ part ∷ [] })
+    → Ruled decides words (record {
+      words = s.words;
+      homes = s.homes;
+      views = slice_set s.views actor rest ++ part ∷ [];
+    })
 
 -- at the start
 abbrev pub IsOpened : (ℕ → ℕ → Type 0) → ℕ → KnownPlaces → Type 0

@@ -5,6 +5,8 @@
 //! Begin with `specs/Decisive.antt` and `specs/Leaving.antt`, then `stop.rt` and `steps.rt`; `laws.rt` says what may be
 //! left out.
 //! Not promised: that a place is ever seen. No call waits, and none but `Cut::new` takes memory.
+//!
+//! Tested: `lists.rt` of `test_engine`; `words.rt` of `test_low`; runs of the programs in `tests`.
 #![tactic(auto)]
 
 mod cut;

@@ -148,17 +148,22 @@ tokens_cut = (
                                     omega arith,
                                     refl,
                                     omega arith,
-                                    inl (longest_symbol 40 (drop 34 job_text) symbol.Open (refl, refl, refl, refl) refl),
+                                    inl (longest_symbol 40 (drop 34 job_text) symbol.Open (refl, refl, refl, refl)
+                                        refl),
                                     (
                                       omega arith,
                                       refl,
                                       omega arith,
-                                      inl (longest_symbol 41 (drop 35 job_text) symbol.Close (refl, refl, refl, refl) refl),
+                                      inl
+                                          (longest_symbol 41 (drop 35 job_text) symbol.Close (refl, refl, refl, refl)
+                                          refl),
                                       (
                                         omega arith,
                                         refl,
                                         omega arith,
-                                        inl (longest_symbol 46 (drop 36 job_text) symbol.Dot (refl, refl, refl, refl) refl),
+                                        inl
+                                            (longest_symbol 46 (drop 36 job_text) symbol.Dot (refl, refl, refl, refl)
+                                            refl),
                                         (
                                           omega arith,
                                           refl,
@@ -168,12 +173,16 @@ tokens_cut = (
                                             omega arith,
                                             refl,
                                             omega arith,
-                                            inl (longest_symbol 40 (drop 44 job_text) symbol.Open (refl, refl, refl, refl) refl),
+                                            inl
+                                                (longest_symbol 40 (drop 44 job_text) symbol.Open
+                                                (refl, refl, refl, refl) refl),
                                             (
                                               omega arith,
                                               refl,
                                               omega arith,
-                                              inl (longest_symbol 45 (drop 45 job_text) symbol.Minus (refl, refl, refl, refl) refl),
+                                              inl
+                                                  (longest_symbol 45 (drop 45 job_text) symbol.Minus
+                                                  (refl, refl, refl, refl) refl),
                                               (
                                                 omega arith,
                                                 refl,
@@ -183,7 +192,9 @@ tokens_cut = (
                                                   omega arith,
                                                   refl,
                                                   omega arith,
-                                                  inl (longest_symbol 41 (drop 47 job_text) symbol.Close (refl, refl, refl, refl) refl),
+                                                  inl
+                                                      (longest_symbol 41 (drop 47 job_text) symbol.Close
+                                                      (refl, refl, refl, refl) refl),
                                                   (omega arith, refl),
                                                 ),
                                               ),
@@ -216,7 +227,10 @@ abbrev of_call : Call
 of_call = record { operation = operation.Of; parts = (numeral (codes "1") ∷ []) ∷ [] }
 
 abbrev prefix_call : Call
-prefix_call = record { operation = operation.Prefix; parts = (numeral (codes "0") ∷ []) ∷ (numeral (codes "2") ∷ []) ∷ (named (codes "sum") ∷ []) ∷ [] }
+prefix_call = record {
+  operation = operation.Prefix;
+  parts = (numeral (codes "0") ∷ []) ∷ (numeral (codes "2") ∷ []) ∷ (named (codes "sum") ∷ []) ∷ [];
+}
 
 abbrev count_call : Call
 count_call = record { operation = operation.Count; parts = [] }
@@ -225,14 +239,28 @@ abbrev fallback_call : Call
 fallback_call = record { operation = operation.OnFault; parts = (sign symbol.Minus ∷ numeral (codes "1") ∷ []) ∷ [] }
 
 abbrev written_job : Job
-written_job = record { name = codes "s"; source = plain false of_call; stages = prefix_call ∷ []; terminal = count_call; fallback = Some fallback_call; semicolon = false }
+written_job = record {
+  name = codes "s";
+  source = plain false of_call;
+  stages = prefix_call ∷ [];
+  terminal = count_call;
+  fallback = Some fallback_call;
+  semicolon = false;
+}
 
 is_written : IsJob (words_of job_text tokens) written_job
 is_written = record {
   sound = refl;
   spelled = record {
     source = record { role = refl; call = record { pair = (refl, tt); allowed = refl; fit = (refl, tt) } };
-    stages = (record { role = refl; call = record { pair = (refl, (refl, (refl, tt))); allowed = refl; fit = (refl, (refl, (refl, tt))) } }, tt);
+    stages = (
+      record {
+        role = refl;
+        call =
+            record { pair = (refl, (refl, (refl, tt))); allowed = refl; fit = (refl, (refl, (refl, tt))) };
+      },
+      tt,
+    );
     terminal = record { role = refl; call = record { pair = tt; allowed = refl; fit = tt } };
     fallback = record { role = refl; call = record { pair = (refl, tt); allowed = refl; fit = (refl, tt) } };
     spelled = refl;
@@ -241,7 +269,14 @@ is_written = record {
 
 -- the job that it means
 abbrev meant_job : AbstractJob
-meant_job = record { name = codes "s"; sources = values (pos 1 ∷ []) ∷ []; stages = prefix (Some (0, 2)) op.Sum ∷ []; terminal = count; on_fault = Some (negsuc 0); table = [] }
+meant_job = record {
+  name = codes "s";
+  sources = values (pos 1 ∷ []) ∷ [];
+  stages = prefix (Some (0, 2)) op.Sum ∷ [];
+  terminal = count;
+  on_fault = Some (negsuc 0);
+  table = [];
+}
 
 read_in_version_two : IsRead (scope_below 2 [] []) job_text (Ok meant_job)
 read_in_version_two = inside (record {
@@ -267,12 +302,29 @@ read_in_version_two = inside (record {
 })
 
 refused_in_version_one : IsRead (scope_below 1 [] []) job_text (Err cause.Syntax)
-refused_in_version_one = inside (record { short = leb-true (length job_text) 65536 refl; tokens = tokens; cut = tokens_cut; job = written_job; is = is_written; read = refl })
+refused_in_version_one = inside (record {
+  short = leb-true (length job_text) 65536 refl;
+  tokens = tokens;
+  cut = tokens_cut;
+  job = written_job;
+  is = is_written;
+  read = refl;
+})
 
 pub report_in_version_two : IsReport in_version_two (codes "s = -1\n")
 unfolding job_texts_within version_within int_wrap digits
-report_in_version_two = record { columns = []; given = refl; jobs = meant_job ∷ []; spelled = inr (meant_job, inr (omega arith, read_in_version_two), refl); written = refl }
+report_in_version_two = record {
+  columns = [];
+  given = refl;
+  jobs = meant_job ∷ [];
+  spelled = inr (meant_job, inr (omega arith, read_in_version_two), refl);
+  written = refl;
+}
 
 pub refusal_in_version_one : HasJobsRefused in_version_one (record { line = 1; cause = cause.Syntax })
 unfolding job_texts_within version_within
-refusal_in_version_one = record { columns = []; given = refl; refused = inl (cause.Syntax, inr (omega arith, refused_in_version_one), refl) }
+refusal_in_version_one = record {
+  columns = [];
+  given = refl;
+  refused = inl (cause.Syntax, inr (omega arith, refused_in_version_one), refl);
+}

@@ -21,7 +21,8 @@ IsFile remaining None file = file ≡ None
 IsFile remaining (Some reader) file = (bytes : List ℕ) × (file ≡ Some bytes) × IsWhole (remaining reader.now) bytes
 
 -- this is what a run is given: the files of its two readers, and what its settings ask for
-pub record IsGiven {C : Type 0} (remaining : C → Option (List ℕ)) (columns : Option (MutBor C)) (jobs : Option (List ℕ)) (asked : Asked) (input : Input) : Type 0 where
+pub record IsGiven {C : Type 0} (remaining : C → Option (List ℕ)) (columns : Option (MutBor C)) (jobs : Option (List ℕ))
+    (asked : Asked) (input : Input) : Type 0 where
   pub columns_file : IsFile remaining columns input.columns
   pub jobs_file : IsWhole jobs input.jobs
   pub asked_for : input.asked ≡ asked
@@ -32,28 +33,34 @@ HasRisenThere failures (Some before) (inr (inl after)) = HasRisen (failures befo
 HasRisenThere failures before after = ⊥
 
 -- an optional reader is at its end, if there is one; the second is the reader as the call leaves it
-abbrev pub IsAtEndThere : {C : Type 0} → (C → Option (List ℕ)) → Option (MutBor C) → Unit {0} ⊎ ((MutBor C × Unit {0}) ⊎ ⊥) → Type 0
+abbrev pub IsAtEndThere : {C : Type 0} → (C → Option (List ℕ)) → Option (MutBor C)
+    → Unit {0} ⊎ ((MutBor C × Unit {0}) ⊎ ⊥) → Type 0
 IsAtEndThere remaining None after = ⊤
 IsAtEndThere remaining (Some before) (inr (inl after)) = IsAtEnd (remaining after.0.now)
 IsAtEndThere remaining (Some before) after = ⊥
 
--- this holds of a job file that a reader has left, with any column file that gives these columns, and with what is asked for
+-- this holds of a job file that a reader has left, with any column file that gives these columns, and with what is
+-- asked for
 abbrev pub HoldsWith : List NamedColumn → Option (List ℕ) → Asked → (Input → Type 0) → Type 0
 HoldsWith columns jobs asked P =
     (bytes : List ℕ) × IsWhole jobs bytes
-    × ((file : Option (List ℕ)) → columns_by (form_for asked bytes) file ≡ Ok columns → P (record { columns = file; jobs = bytes; asked = asked }))
+    × ((file : Option (List ℕ)) → columns_by (form_for asked bytes) file ≡ Ok columns
+    → P (record { columns = file; jobs = bytes; asked = asked }))
 
 -- this holds of the column file and the job file that two readers have left, and with what is asked for
 abbrev pub HoldsOver : Option (List ℕ) → Option (List ℕ) → Asked → (Input → Type 0) → Type 0
 HoldsOver columns jobs asked P =
-    (file : List ℕ) × IsWhole columns file × (bytes : List ℕ) × IsWhole jobs bytes × P (record { columns = Some file; jobs = bytes; asked = asked })
+    (file : List ℕ) × IsWhole columns file × (bytes : List ℕ) × IsWhole jobs bytes
+    × P (record { columns = Some file; jobs = bytes; asked = asked })
 
 -- the answer of a run over these readers, what is asked for, and a writer that held these bytes before and
 -- those after: the report was written, or a fault says why not
-abbrev pub IsAnswered : {C X : Type 0} → (C → Option (List ℕ)) → Option (MutBor C) → Option (List ℕ) → Asked → Option (List ℕ) → Option (List ℕ) → Result X EngineFault → Type 0
+abbrev pub IsAnswered : {C X : Type 0} → (C → Option (List ℕ)) → Option (MutBor C) → Option (List ℕ) → Asked
+    → Option (List ℕ) → Option (List ℕ) → Result X EngineFault → Type 0
 IsAnswered remaining columns jobs asked before after answer =
     OnOk answer ((input : Input) × IsGiven remaining columns jobs asked input × Reported input before after)
-    × IfErr answer (λ fault. (input : Input) × IsGiven remaining columns jobs asked input × Faulted input before after fault)
+    × IfErr answer (λ fault. (input : Input) × IsGiven remaining columns jobs asked input
+    × Faulted input before after fault)
 
 -- a reader or a writer: the bytes that it has left, or holds, if it is known which these are, and how often it failed
 pub record CountedBytes : Type 0 where
@@ -63,9 +70,12 @@ pub record CountedBytes : Type 0 where
 -- what a run leaves of the reader of jobs and of its writer, after this answer: after a report the job file is read up;
 -- after the refusal of a column file that is read first it is as it was; if no write failed nothing was written; and a
 -- failed read or write was counted
-pub record IsLeft {X : Type 0} (asked : Asked) (jobs jobs_after writer writer_after : CountedBytes) (answer : Result X EngineFault) : Type 0 where
+pub record IsLeft {X : Type 0} (asked : Asked) (jobs jobs_after writer writer_after : CountedBytes)
+    (answer : Result X EngineFault) : Type 0 where
   pub read_up : OnOk answer (IsAtEnd jobs_after.bytes)
-  pub unread : reads_by_jobs asked ≡ false → IfErr answer (λ fault. (cause : ColumnFault) → fault ≡ Columns cause → (jobs_after.bytes ≡ jobs.bytes) × (jobs_after.failures ≡ jobs.failures))
+  pub unread : reads_by_jobs asked ≡ false
+      → IfErr answer (λ fault. (cause : ColumnFault) → fault ≡ Columns cause
+      → (jobs_after.bytes ≡ jobs.bytes) × (jobs_after.failures ≡ jobs.failures))
   pub unwritten : IfErr answer (λ fault. ((n : ℕ) → fault ≢ Write n) → Keeps writer.bytes writer_after.bytes)
   pub untouched : IfErr answer (λ fault. ((n : ℕ) → fault ≢ Write n) → writer_after.failures ≡ writer.failures)
   pub read_failed : IfErr answer (λ fault. fault ≡ JobsRead → HasRisen jobs.failures jobs_after.failures)

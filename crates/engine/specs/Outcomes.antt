@@ -1,4 +1,5 @@
--- Design: what an input gives: a report, or the refusal of one of its files. Of the settings of a run only what they ask for is a part of it.
+-- Design: what an input gives: a report, or the refusal of one of its files. Of the settings of a run only what they
+-- ask for is a part of it.
 use Rattle.std.specs.Prelude.{◌≡◌, ℕ, List, [], Option, Some, None, Result, Ok, Err}
 use Rattle.columns.specs.declared.fault.ColumnFault.{ColumnFault}
 use Rattle.columns.specs.Cells.{cells_of}

@@ -22,4 +22,5 @@ IsUnread NoMemory = ⊤
 
 -- a write failed, after which a writer that held these bytes before and those after took the first bytes of a report
 abbrev pub IsCutShort : List ℕ → Option (List ℕ) → Option (List ℕ) → EngineFault → Type 0
-IsCutShort report before after fault = (n : ℕ) × (fault ≡ Write n) × (n < length report) × Appends before after (take n report)
+IsCutShort report before after fault = (n : ℕ) × (fault ≡ Write n) × (n < length report)
+    × Appends before after (take n report)

@@ -23,13 +23,15 @@ use Rattle.job_language.specs.declared.fault.JobFault.{JobFault}
 use Rattle.job_language.specs.Files.{IsRefusedWithin}
 use Rattle.engine.specs.declared.fault.EngineFault.{EngineFault}
 use Rattle.engine.specs.declared.fault.EngineFault.TheVariants.{Columns, Jobs, JobsRead, NoMemory, Write}
-pub use Rattle.report.specs.Reports.{Input, IsReport, columns_by, columns_given, form_for, form_with, names_for, reads_by_jobs, report_in}
+pub use Rattle.report.specs.Reports.{Input, IsReport, columns_by, columns_given, form_for, form_with, names_for}
+pub use Rattle.report.specs.Reports.{reads_by_jobs, report_in}
 
 -- a writer that held these bytes before and those after took the report and nothing else
 abbrev pub Reported : Input → Option (List ℕ) → Option (List ℕ) → Type 0
 Reported input before after = (report : List ℕ) × IsReport input report × Appends before after report
 
--- a column file is refused in a form for just this, unless a read failed or memory ran out; without a file nothing is refused
+-- a column file is refused in a form for just this, unless a read failed or memory ran out; without a file nothing is
+-- refused
 abbrev pub IsColumnFault : AbstractForm → Option (List ℕ) → ColumnFault → Type 0
 IsColumnFault form None f = ⊥
 IsColumnFault form (Some bytes) f = f ≢ column.Read → f ≢ column.NoMemory → cells_by form bytes ≡ Err f
@@ -57,5 +59,6 @@ Says input (Write n) = ⊥
 -- what a fault says of the input, and what the writer then holds: after a failed write the first bytes of the report
 -- went out and no others; otherwise nothing was written
 abbrev pub Faulted : Input → Option (List ℕ) → Option (List ℕ) → EngineFault → Type 0
-Faulted input before after (Write n) = (report : List ℕ) × IsReport input report × (n < length report) × Appends before after (take n report)
+Faulted input before after (Write n) = (report : List ℕ) × IsReport input report × (n < length report)
+    × Appends before after (take n report)
 Faulted input before after fault = Says input fault × Keeps before after

@@ -11,7 +11,11 @@ job_text = codes "s = of(1).prefix(0, 2, sum).count().onFault(-1)"
 -- what a run is given whose job file this is; there is no column file, the report is text, and version 2 is
 -- the newest
 abbrev pub jobs_alone : List ℕ → Input
-jobs_alone bytes = record { columns = None; jobs = bytes; asked = record { form = form.Text; newest = 2; table = integers } }
+jobs_alone bytes = record {
+  columns = None;
+  jobs = bytes;
+  asked = record { form = form.Text; newest = 2; table = integers };
+}
 
 -- the job in a file of version 2
 abbrev pub in_version_two : Input

@@ -8,6 +8,8 @@
 //! Begin with `specs/Run.antt`, then `running.rt`; `telling.rt` has the line and the status of each fault.
 //! Not promised: that a file can be read or written, or that memory is there.
 //! The operations are defined as in `java.util.stream.LongStream` (Java SE 17), the arithmetic as for `long`.
+//!
+//! Tested: `runs.rt` of `test_engine`; runs of the programs in `tests`.
 #![tactic(auto)]
 
 mod fault;

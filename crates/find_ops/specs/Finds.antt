@@ -47,7 +47,8 @@ if_false a true = None
 if_false a false = Some (Ok a)
 
 -- helper: a test without a value ends the walk with a fault of this stage at this item
-abbrev pub tested : ℕ → Item → (Bool → Option (Result Found Fault)) → Result Bool FaultKind → Option (Result Found Fault)
+abbrev pub tested : ℕ → Item → (Bool → Option (Result Found Fault)) → Result Bool FaultKind
+    → Option (Result Found Fault)
 tested n x f (Ok b) = f b
 tested n x f (Err k) = Some (Err (record { kind = k; stage = n; origin = Some x.origin }))
 

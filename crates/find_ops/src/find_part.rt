@@ -7,7 +7,7 @@ ghost use Rattle.lambda_values.specs.Earlier.{Numbers};
 ghost use Rattle.find_ops.specs.Finds.{Find, find_of, find_answer, first_decision, decision_at_end};
 ghost use Rattle.find_ops.specs.Parts.{StandsFor};
 
-use super::terminal::FindTerminal;
+use crate::terminal::FindTerminal;
 use lambda_values::Env;
 use trace::{Chunk, End, Fault, Item, SourceItems};
 

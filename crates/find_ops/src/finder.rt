@@ -7,8 +7,8 @@ ghost use Rattle.trace.specs.Trace.{trace};
 ghost use Rattle.find_ops.specs.Finds.{find_of};
 ghost use Rattle.find_ops.specs.Parts.{StandsFor};
 
-use super::find_part::FindPart;
-use super::terminal::FindTerminal;
+use crate::find_part::FindPart;
+use crate::terminal::FindTerminal;
 use lambda_values::Env;
 use trace::{End, Flow, Item, LongSink, NoMemory};
 

@@ -7,6 +7,8 @@
 //! says why it may. No call takes memory.
 //! Not promised: that a piece is walked no further than needed, but by `Finder`, whose `flow` says so.
 //! Java: `findFirst`, `anyMatch`, `allMatch`, `noneMatch` of `LongStream` (Java SE 17, `java.util.stream`).
+//!
+//! Tested: `calls.rt` of `test_low`; runs of the programs in `tests`.
 #![tactic(auto)]
 
 mod find_part;

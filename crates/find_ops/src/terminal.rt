@@ -3,7 +3,7 @@
 ghost use Rattle.std.specs.Prelude.{◌≡◌, flat_map, take};
 ghost use Rattle.find_ops.specs.Finds.{find_of, answer_of_none, decision, first_decision};
 
-use super::find_part::Found;
+use crate::find_part::Found;
 use lambda_values::{BoolExpr, Env, FaultKind};
 use trace::{Fault, Item, SourceItems};
 

@@ -19,7 +19,8 @@ both false b h = absurd cc
 
 pub fit_all : (o : Operation) (n i : ℕ) (xs : List (List Word)) → fits_from o n i xs ≡ true → FitFrom o n i xs
 fit_all o n i [] h = tt
-fit_all o n i (a ∷ xs) h = let two = both (fits (param_of o n i) a) (fits_from o n (suc i) xs) h in (two.0, fit_all o n (suc i) xs two.1)
+fit_all o n i (a ∷ xs) h = let two = both (fits (param_of o n i) a) (fits_from o n (suc i) xs) h in
+    (two.0, fit_all o n (suc i) xs two.1)
 
 pub fit_again : (o : Operation) (n i : ℕ) (xs : List (List Word)) → FitFrom o n i xs → fits_from o n i xs ≡ true
 fit_again o n i [] h = refl
@@ -36,22 +37,29 @@ no_empty o n i x h = tt
 
 -- a call is read as it was written
 pub reads_call : (c : Call) (rest ws : List Word) → Completes c rest ws → reads start ws ≡ closed c.parts
-reads_call c rest ws h = ap (reads start) (sym h.spelled) ∙ read_back c.parts rest h.call.pair (no_empty c.operation (length c.parts) 0 c.parts h.call.fit)
+reads_call c rest ws h = ap (reads start) (sym h.spelled)
+    ∙ read_back c.parts rest h.call.pair (no_empty c.operation (length c.parts) 0 c.parts h.call.fit)
 
 same_parts : (c d : Call) (r s ws : List Word) → Completes c r ws → Completes d s ws → c.parts ≡ d.parts
-same_parts c d r s ws h k = let e : closed c.parts ≡ closed d.parts = sym (reads_call c r ws h) ∙ reads_call d s ws k in cc
+same_parts c d r s ws h k = let e : closed c.parts ≡ closed d.parts = sym (reads_call c r ws h) ∙ reads_call d s ws k in
+    cc
 
 same_call : (c d : Call) → c.operation ≡ d.operation → c.parts ≡ d.parts → c ≡ d
 same_call c d h k = rw h (rw k refl)
 
-pub one_reading : (c d : Call) (r s ws : List Word) → c.operation ≡ d.operation → Completes c r ws → Completes d s ws → (c ≡ d) × (r ≡ s)
+pub one_reading : (c d : Call) (r s ws : List Word) → c.operation ≡ d.operation → Completes c r ws → Completes d s ws
+    → (c ≡ d) × (r ≡ s)
 one_reading c d r s ws same h k =
     let parts = same_parts c d r s ws h k in
-    let again : parts_words c.parts ++ sign symbol.Close ∷ s ≡ ws = ap (λ xs. parts_words xs ++ sign symbol.Close ∷ s) parts ∙ k.spelled in
-    let rest : sign symbol.Close ∷ r ≡ sign symbol.Close ∷ s = append_cancel_left (parts_words c.parts) (sign symbol.Close ∷ r) (sign symbol.Close ∷ s) (h.spelled ∙ sym again) in
+    let again : parts_words c.parts ++ sign symbol.Close ∷ s ≡ ws =
+    ap (λ xs. parts_words xs ++ sign symbol.Close ∷ s) parts ∙ k.spelled in
+    let rest : sign symbol.Close ∷ r ≡ sign symbol.Close ∷ s =
+    append_cancel_left (parts_words c.parts) (sign symbol.Close ∷ r) (sign symbol.Close ∷ s)
+    (h.spelled ∙ sym again) in
     (same_call c d same parts, cc)
 
-pub is_read : (o : Operation) (ws : List Word) (es : List ℕ) → IsSplit ws es → allows o (length es) ≡ true → fits_from o (length es) 0 (pieces ws 0 es) ≡ true → IsReadAs o ws es
+pub is_read : (o : Operation) (ws : List Word) (es : List ℕ) → IsSplit ws es → allows o (length es) ≡ true
+    → fits_from o (length es) 0 (pieces ws 0 es) ≡ true → IsReadAs o ws es
 is_read o ws es s allowed fit =
     let w = reads_written ws (pieces ws 0 es) s.state in
     let n = length_parts ws 0 es in
@@ -61,7 +69,8 @@ is_read o ws es s allowed fit =
         call = record {
           pair = w.pair;
           allowed = ap (allows o) n ∙ allowed;
-          fit = fit_all o (length (pieces ws 0 es)) 0 (pieces ws 0 es) (ap (λ n. fits_from o n 0 (pieces ws 0 es)) n ∙ fit);
+          fit = fit_all o (length (pieces ws 0 es)) 0 (pieces ws 0 es)
+              (ap (λ n. fits_from o n 0 (pieces ws 0 es)) n ∙ fit);
         };
         spelled = w.spelled;
       };
@@ -71,17 +80,23 @@ is_read o ws es s allowed fit =
 pub is_open : (c : Call) (rest ws : List Word) → IsOpen (reads start ws) → Completes c rest ws → ⊥
 is_open c rest ws h k = subst IsOpen (reads_call c rest ws k) h
 
-same_pieces : (c : Call) (rest ws : List Word) (es : List ℕ) → IsSplit ws es → Completes c rest ws → c.parts ≡ pieces ws 0 es
-same_pieces c rest ws es s k = let e : closed c.parts ≡ closed (pieces ws 0 es) = sym (reads_call c rest ws k) ∙ s.state in cc
+same_pieces : (c : Call) (rest ws : List Word) (es : List ℕ) → IsSplit ws es → Completes c rest ws
+    → c.parts ≡ pieces ws 0 es
+same_pieces c rest ws es s k = let e : closed c.parts ≡ closed (pieces ws 0 es) =
+    sym (reads_call c rest ws k) ∙ s.state in cc
 
-pub not_allowed : (c : Call) (rest ws : List Word) (es : List ℕ) → IsSplit ws es → allows c.operation (length es) ≡ false → Completes c rest ws → ⊥
+pub not_allowed : (c : Call) (rest ws : List Word) (es : List ℕ) → IsSplit ws es
+    → allows c.operation (length es) ≡ false → Completes c rest ws → ⊥
 not_allowed c rest ws es s h k =
-    let e : true ≡ false = sym k.call.allowed ∙ ap (λ v. allows c.operation (length v)) (same_pieces c rest ws es s k) ∙ ap (allows c.operation) (length_parts ws 0 es) ∙ h in
+    let e : true ≡ false = sym k.call.allowed ∙ ap (λ v. allows c.operation (length v)) (same_pieces c rest ws es s k)
+    ∙ ap (allows c.operation) (length_parts ws 0 es) ∙ h in
     absurd cc
 
-pub not_fit : (c : Call) (rest ws : List Word) (es : List ℕ) → IsSplit ws es → fits_from c.operation (length es) 0 (pieces ws 0 es) ≡ false → Completes c rest ws → ⊥
+pub not_fit : (c : Call) (rest ws : List Word) (es : List ℕ) → IsSplit ws es
+    → fits_from c.operation (length es) 0 (pieces ws 0 es) ≡ false → Completes c rest ws → ⊥
 not_fit c rest ws es s h k =
     let same = same_pieces c rest ws es s k in
     let n : length c.parts ≡ length es = ap length same ∙ length_parts ws 0 es in
-    let e : true ≡ false = sym (fit_again c.operation (length c.parts) 0 c.parts k.call.fit) ∙ ap (λ n. fits_from c.operation n 0 c.parts) n ∙ ap (fits_from c.operation (length es) 0) same ∙ h in
+    let e : true ≡ false = sym (fit_again c.operation (length c.parts) 0 c.parts k.call.fit)
+    ∙ ap (λ n. fits_from c.operation n 0 c.parts) n ∙ ap (fits_from c.operation (length es) 0) same ∙ h in
     absurd cc

@@ -1,5 +1,6 @@
 -- What is collected of a call: its numbers, its last part.
-use Rattle.std.proofs.Common.{◌≡◌, ◌≢◌, ℕ, suc, ◌+◌, ◌<◌, List, [], ◌∷◌, ◌++◌, length, drop, get_or, None, Err, refl, sym, ap, ◌∙◌, arith}
+use Rattle.std.proofs.Common.{◌≡◌, ◌≢◌, ℕ, suc, ◌+◌, ◌<◌, List, [], ◌∷◌, ◌++◌, length, drop, get_or, None, Err, refl}
+use Rattle.std.proofs.Common.{sym, ap, ◌∙◌, arith}
 use Rattle.std.proofs.lemmas.List.{drop_more}
 use Rattle.stream_tokens.specs.declared.symbol.Symbol.TheVariants as symbol
 use Rattle.lambda_expr.specs.Words.{Word, named, numeral, quoted, sign}
@@ -17,7 +18,9 @@ use Rattle.job_language.specs.Operators.{method_in}
 use Rattle.job_language.specs.Arguments.{IsLambdaRead, reads_cells}
 
 -- the numbers of a call from a part on
-pub values_more : (o : Operation) (n i : ℕ) (xs : List (List Word)) → i < length xs → numbers_of o n i (drop i xs) ≡ number_in (param_of o n i) (get_or xs i []) ++ numbers_of o n (i + 1) (drop (i + 1) xs)
+pub values_more : (o : Operation) (n i : ℕ) (xs : List (List Word)) → i < length xs
+    → numbers_of o n i (drop i xs) ≡ number_in (param_of o n i) (get_or xs i []) ++ numbers_of o n (i + 1)
+    (drop (i + 1) xs)
 values_more o n i xs lt =
     let e : suc i ≡ i + 1 = omega arith in
     ap (λ v. numbers_of o n i v) (drop_more xs i [] lt)
@@ -54,6 +57,7 @@ no_method (named v ∷ sign symbol.DoubleColon ∷ named w ∷ d ∷ ws) h = ref
 no_method (a ∷ b ∷ c ∷ d ∷ ws) h = refl
 
 -- a lambda that is refused
-pub lambda_refused : (s : Scope) (text : List ℕ) (w : Want) (f : ReadFault) (e : Cause) → IsRefusedWithin (reads_cells s) text w f → e ≡ cause_of f → e ≢ cause.NoMemory → IsLambdaRead s text w (Err e)
+pub lambda_refused : (s : Scope) (text : List ℕ) (w : Want) (f : ReadFault) (e : Cause)
+    → IsRefusedWithin (reads_cells s) text w f → e ≡ cause_of f → e ≢ cause.NoMemory → IsLambdaRead s text w (Err e)
 lambda_refused s text w fault.NoMemory e h is other = absurd (other is)
 lambda_refused s text w f e h is other = (Err f, h, ap Err (sym is))

@@ -15,9 +15,14 @@ pub one_name : (a b : Operation) → name_of a ≡ name_of b → a ≡ b
 one_name a b h = let e : Some a ≡ Some b = sym (named_back a) ∙ ap operation_of h ∙ named_back b in cc
 
 -- a row with another name is skipped
-pub row_more : (os : List Operation) (i : ℕ) (w : List ℕ) (d : Operation) → i < length os → pointwise nat_eq w (name_of (get_or os i d)) ≡ false → operation_among (drop i os) w ≡ operation_among (drop (i + 1) os) w
-row_more os i w d lt other = ap (λ v. operation_among v w) (drop_more os i d lt) ∙ ap (λ b. if b then Some (get_or os i d) else operation_among (drop (i + 1) os) w) other
+pub row_more : (os : List Operation) (i : ℕ) (w : List ℕ) (d : Operation) → i < length os
+    → pointwise nat_eq w (name_of (get_or os i d)) ≡ false
+    → operation_among (drop i os) w ≡ operation_among (drop (i + 1) os) w
+row_more os i w d lt other = ap (λ v. operation_among v w) (drop_more os i d lt)
+    ∙ ap (λ b. if b then Some (get_or os i d) else operation_among (drop (i + 1) os) w) other
 
 -- a row with this name is the first
-pub row_here : (os : List Operation) (i : ℕ) (w : List ℕ) (d : Operation) → i < length os → pointwise nat_eq w (name_of (get_or os i d)) ≡ true → operation_among (drop i os) w ≡ Some (get_or os i d)
-row_here os i w d lt same = ap (λ v. operation_among v w) (drop_more os i d lt) ∙ ap (λ b. if b then Some (get_or os i d) else operation_among (drop (i + 1) os) w) same
+pub row_here : (os : List Operation) (i : ℕ) (w : List ℕ) (d : Operation) → i < length os
+    → pointwise nat_eq w (name_of (get_or os i d)) ≡ true → operation_among (drop i os) w ≡ Some (get_or os i d)
+row_here os i w d lt same = ap (λ v. operation_among v w) (drop_more os i d lt)
+    ∙ ap (λ b. if b then Some (get_or os i d) else operation_among (drop (i + 1) os) w) same

@@ -1,5 +1,6 @@
 -- A call of the grammar has the parts that its row takes.
-use Rattle.std.proofs.Common.{◌≡◌, ◌⊎◌, ⊎_elim, ℕ, suc, ◌<◌, ℤ, Bool, true, false, inl, inr, List, [], ◌∷◌, ◌++◌, length, Option, Some, None, Result, Ok, Err, refl, sym, ap, subst, append-nil, arith}
+use Rattle.std.proofs.Common.{◌≡◌, ◌⊎◌, ⊎_elim, ℕ, suc, ◌<◌, ℤ, Bool, true, false, inl, inr, List, [], ◌∷◌, ◌++◌}
+use Rattle.std.proofs.Common.{length, Option, Some, None, Result, Ok, Err, refl, sym, ap, subst, append-nil, arith}
 use Rattle.std.specs.Prelude.{max, pos, not, ◌||◌, ◌==◌, nat_lt, int_lt, if◌then◌else◌}
 use Rattle.std.specs.Option.{is_none, is_some}
 use Rattle.std.specs.Ordering.{int_eq}
@@ -38,12 +39,21 @@ use Rattle.job_language.specs.declared.operation.Params.TheVariants as params
 use Rattle.job_language.specs.declared.terminal.Gives.{Gives}
 use Rattle.job_language.specs.declared.terminal.Gives.TheVariants as gives
 use Rattle.lambda_expr.specs.NumberWords.{number_read}
-use Rattle.job_language.specs.Rows.{Argument, nothing, column, job, number, test, stream, operator, exact, source, stage, terminal, fallback, Takes, of_nothing, of_bounds, of_values, of_number, of_count, of_column, of_job, of_long, of_test, of_stream, of_positions, of_identity, Row, as_source, as_concat, as_stage, as_terminal, as_fallback, params_taken, params_in, taken, from_identity, made, built_by}
+use Rattle.job_language.specs.Rows.{Argument, nothing, column, job, number, test, stream, operator, exact, source}
+use Rattle.job_language.specs.Rows.{stage, terminal, fallback, Takes, of_nothing, of_bounds, of_values, of_number}
+use Rattle.job_language.specs.Rows.{of_count, of_column, of_job, of_long, of_test, of_stream, of_positions, of_identity}
+use Rattle.job_language.specs.Rows.{Row, as_source, as_concat, as_stage, as_terminal, as_fallback, params_taken}
+use Rattle.job_language.specs.Rows.{params_in, taken, from_identity, made, built_by}
 use Rattle.job_language.specs.Table.{row, params_of, allowed, param_at, param_of, fits, name_in, places_in, string_in}
 use Rattle.job_language.specs.Calls.{Call, FitFrom, IsCall}
-use Rattle.job_language.specs.Causes.{Scope, first_cause, when, count_of, number_cause, number_causes, number_in, as_list, numbers_of, is_negative, values_cause, early_causes}
+use Rattle.job_language.specs.Causes.{Scope, first_cause, when, count_of, number_cause, number_causes, number_in}
+use Rattle.job_language.specs.Causes.{as_list, numbers_of, is_negative, values_cause, early_causes}
 use Rattle.job_language.specs.Operators.{is_add_exact, spelled_op}
-use Rattle.job_language.specs.Arguments.{PlacedCall, last_part, last_param, key_answer, key_in, keyed, column_answer, name_answer, result_answer, listed, pair_argument, argument_of, after_names, cell_cause, cell_causes, reference_cause, reference_causes, named_causes, lambda_answer, reads_cells, IsLambdaRead, IsOperatorRead, IsReadBy, IsArgumentRead, argument_text}
+use Rattle.job_language.specs.Arguments.{PlacedCall, last_part, last_param, key_answer, key_in, keyed, column_answer}
+use Rattle.job_language.specs.Arguments.{name_answer, result_answer, listed, pair_argument, argument_of, after_names}
+use Rattle.job_language.specs.Arguments.{cell_cause, cell_causes, reference_cause, reference_causes, named_causes}
+use Rattle.job_language.specs.Arguments.{lambda_answer, reads_cells, IsLambdaRead, IsOperatorRead, IsReadBy}
+use Rattle.job_language.specs.Arguments.{IsArgumentRead, argument_text}
 use Rattle.job_language.specs.Verdicts.{IsReadAfter, IsCallRead}
 
 -- ---- causes that are no syntax fault
@@ -60,18 +70,22 @@ no_number : (p : Param) (ws : List Word) → number_cause p ws ≡ Some cause.Sy
 no_number param.Number ws e = not_when (is_none (number_read ws)) (cause.Expr LiteralTooLarge) (λ h. cc) e
 no_number p ws e = absurd cc
 
-first_not : (c : Option Cause) (cs : List (Option Cause)) → (c ≡ Some cause.Syntax → ⊥) → (first_cause cs ≡ Some cause.Syntax → ⊥) → first_cause (c ∷ cs) ≡ Some cause.Syntax → ⊥
+first_not : (c : Option Cause) (cs : List (Option Cause)) → (c ≡ Some cause.Syntax → ⊥)
+    → (first_cause cs ≡ Some cause.Syntax → ⊥) → first_cause (c ∷ cs) ≡ Some cause.Syntax → ⊥
 first_not None cs h k e = k e
 first_not (Some d) cs h k e = h e
 
-first_both : (cs ds : List (Option Cause)) → (first_cause cs ≡ Some cause.Syntax → ⊥) → (first_cause ds ≡ Some cause.Syntax → ⊥) → first_cause (cs ++ ds) ≡ Some cause.Syntax → ⊥
+first_both : (cs ds : List (Option Cause)) → (first_cause cs ≡ Some cause.Syntax → ⊥)
+    → (first_cause ds ≡ Some cause.Syntax → ⊥) → first_cause (cs ++ ds) ≡ Some cause.Syntax → ⊥
 first_both [] ds h k e = k e
 first_both (None ∷ cs) ds h k e = first_both cs ds h k e
 first_both (Some c ∷ cs) ds h k e = h e
 
-no_numbers : (o : Operation) (n i : ℕ) (xs : List (List Word)) → first_cause (number_causes o n i xs) ≡ Some cause.Syntax → ⊥
+no_numbers : (o : Operation) (n i : ℕ) (xs : List (List Word))
+    → first_cause (number_causes o n i xs) ≡ Some cause.Syntax → ⊥
 no_numbers o n i [] e = absurd cc
-no_numbers o n i (a ∷ xs) e = first_not (number_cause (param_of o n i) a) (number_causes o n (suc i) xs) (no_number (param_of o n i) a) (no_numbers o n (suc i) xs) e
+no_numbers o n i (a ∷ xs) e = first_not (number_cause (param_of o n i) a) (number_causes o n (suc i) xs)
+    (no_number (param_of o n i) a) (no_numbers o n (suc i) xs) e
 
 no_values : (p : Params) (ks : List ℤ) → values_cause p ks ≡ Some cause.Syntax → ⊥
 no_values params.Count (k ∷ []) e = not_when (is_negative k) cause.NegativeCount (λ h. cc) e
@@ -84,7 +98,8 @@ no_early c e =
     let p = params_of c.operation in
     let ks = numbers_of c.operation n 0 c.parts in
     first_not (count_of p n) (number_causes c.operation n 0 c.parts ++ values_cause p ks ∷ []) (no_count p n)
-    (first_both (number_causes c.operation n 0 c.parts) (values_cause p ks ∷ []) (no_numbers c.operation n 0 c.parts) (first_not (values_cause p ks) [] (no_values p ks) (λ h. cc))) e
+    (first_both (number_causes c.operation n 0 c.parts) (values_cause p ks ∷ []) (no_numbers c.operation n 0 c.parts)
+    (first_not (values_cause p ks) [] (no_values p ks) (λ h. cc))) e
 
 no_reference : (g : Option Gives) → reference_cause g ≡ Some cause.Syntax → ⊥
 no_reference None e = absurd cc
@@ -93,7 +108,8 @@ no_reference (Some g) e = absurd cc
 
 no_references : (s : Scope) (ws : List (List ℕ)) → first_cause (reference_causes s ws) ≡ Some cause.Syntax → ⊥
 no_references s [] e = absurd cc
-no_references s (w ∷ ws) e = first_not (reference_cause _) (reference_causes s ws) (no_reference _) (no_references s ws) e
+no_references s (w ∷ ws) e = first_not (reference_cause _) (reference_causes s ws) (no_reference _) (no_references s ws)
+    e
 
 no_cell : (rows : Bool) (o : Option (List ℤ)) → cell_cause rows o ≡ Some cause.Syntax → ⊥
 no_cell false o e = absurd cc
@@ -116,15 +132,19 @@ no_argument : (l : AbstractLambda) → argument_of l ≡ Err cause.Syntax → �
 no_argument (pair f) e = no_pair f e
 no_argument l e = absurd cc
 
-no_after : (c : Option Cause) (l : AbstractLambda) → (c ≡ Some cause.Syntax → ⊥) → after_names c l ≡ Err cause.Syntax → ⊥
+no_after : (c : Option Cause) (l : AbstractLambda) → (c ≡ Some cause.Syntax → ⊥) → after_names c l ≡ Err cause.Syntax
+    → ⊥
 no_after None l h e = no_argument l e
 no_after (Some d) l h e = let same : d ≡ cause.Syntax = cc in h (ap Some same)
 
 no_lambda : (s : Scope) (o : Result AbstractLambda ReadFault) → lambda_answer s o ≡ Err cause.Syntax → ⊥
 no_lambda s (Err f) e = absurd cc
-no_lambda s (Ok l) e = no_after (first_cause (named_causes s l)) l (first_both (reference_causes s (names_of l)) (cell_causes s (cells_of l)) (no_references s (names_of l)) (no_cells s (cells_of l))) e
+no_lambda s (Ok l) e = no_after (first_cause (named_causes s l)) l
+    (first_both (reference_causes s (names_of l)) (cell_causes s (cells_of l)) (no_references s (names_of l))
+    (no_cells s (cells_of l))) e
 
-no_operator : (b : Bool) (o : Option (Option Op)) (s : Scope) (text : List ℕ) → IsOperatorRead b o s text (Err cause.Syntax) → ⊥
+no_operator : (b : Bool) (o : Option (Option Op)) (s : Scope) (text : List ℕ)
+    → IsOperatorRead b o s text (Err cause.Syntax) → ⊥
 no_operator true o s text e = absurd cc
 no_operator false (Some f) s text e = no_listed f e
 no_operator false None s text (o, out, e) = no_lambda s o e
@@ -184,7 +204,8 @@ no_identity : {A : Type 0} (i : Option ℤ) (k : ℤ) (x : A) → from_identity 
 no_identity None k x e = absurd cc
 no_identity (Some i) k x e = by_same (int_eq i k) x e
 
-takes : {A : Type 0} (t : Takes A) (a : Argument) (ks : List ℤ) → Accepted (params_taken t) a ks → taken t a ks ≡ Err cause.Syntax → ⊥
+takes : {A : Type 0} (t : Takes A) (a : Argument) (ks : List ℤ) → Accepted (params_taken t) a ks
+    → taken t a ks ≡ Err cause.Syntax → ⊥
 takes (of_nothing x) nothing [] h e = absurd cc
 takes (of_bounds f) nothing (a ∷ b ∷ []) h e = absurd cc
 takes (of_values f) nothing ks h e = absurd cc
@@ -220,7 +241,8 @@ builds (as_fallback t) a ks h e = takes t a ks h (unmade fallback (taken t a ks)
 ok_same : (a b : Argument) → ◌≡◌ {A = Result Argument Cause} (Ok a) (Ok b) → a ≡ b
 ok_same a b e = cc
 
-unless_err : (b : Bool) (f : ReadFault) (r : Result AbstractLambda ReadFault) (l : AbstractLambda) → (if b then Err f else r) ≡ Ok l → r ≡ Ok l
+unless_err : (b : Bool) (f : ReadFault) (r : Result AbstractLambda ReadFault) (l : AbstractLambda)
+    → (if b then Err f else r) ≡ Ok l → r ≡ Ok l
 unless_err true f r l e = absurd cc
 unless_err false f r l e = e
 
@@ -253,14 +275,16 @@ by_expression w h x l e =
     (unless_err (nat_lt 64 (depth x)) TooDeep _ l
     (unless_err (not (fit (literals x))) LiteralTooLarge _ l e)))
 
-by_operands : (h : Names) (s : _) (es : List Shape) (l : AbstractLambda) → stream_verdict h s es ≡ Ok l → IsOfWant want.Stream l
+by_operands : (h : Names) (s : _) (es : List Shape) (l : AbstractLambda) → stream_verdict h s es ≡ Ok l
+    → IsOfWant want.Stream l
 by_operands h s es l e =
     of_inner s (numbers h es) l
     (unless_err (not (all_known 1 es)) UnknownName (streamed s (numbers h es)) l
     (unless_err (nat_lt 64 (max (suc (deepest es)) (length es))) TooDeep _ l
     (unless_err (not (all_fit es)) LiteralTooLarge _ l e)))
 
-by_body : (w : Want) (ws : _) (h : Names) (b : BodyShape) (l : AbstractLambda) → IsBody w ws b → verdict w h b ≡ Ok l → IsOfWant w l
+by_body : (w : Want) (ws : _) (h : Names) (b : BodyShape) (l : AbstractLambda) → IsBody w ws b → verdict w h b ≡ Ok l
+    → IsOfWant w l
 by_body want.Long ws h (expression x) l is e = by_expression want.Long h x l e
 by_body want.Bool ws h (expression x) l is e = by_expression want.Bool h x l e
 by_body want.Pair ws h (expression x) l is e = by_expression want.Pair h x l e
@@ -268,7 +292,8 @@ by_body want.Stream ws h (operands s es) l is e = by_operands h s es l e
 by_body w ws h b l is e = absurd is
 
 judged_want : (cells : Bool) (text : List ℕ) (w : Want) (l : AbstractLambda) → Judged cells text w (Ok l) → IsOfWant w l
-judged_want cells text w l j = by_body w j.spelled.lambda.rest (names_in text j.spelled.tokens) j.body l j.spelled.lambda.stands j.gives
+judged_want cells text w l j = by_body w j.spelled.lambda.rest (names_in text j.spelled.tokens) j.body l
+    j.spelled.lambda.stands j.gives
 
 -- the last part of a row of one kind of lambda
 abbrev IsRead : Want → Argument → Type 0
@@ -294,15 +319,18 @@ of_lambda want.Stream (inner_stream g) a is h = subst (IsRead want.Stream) (ok_s
 of_lambda want.Pair (pair f) a is h = of_pair f a h
 of_lambda w l a is h = absurd is
 
-of_references : (w : Want) (c : Option Cause) (l : AbstractLambda) (a : Argument) → IsOfWant w l → after_names c l ≡ Ok a → IsRead w a
+of_references : (w : Want) (c : Option Cause) (l : AbstractLambda) (a : Argument) → IsOfWant w l
+    → after_names c l ≡ Ok a → IsRead w a
 of_references w None l a is h = of_lambda w l a is h
 of_references w (Some d) l a is h = absurd cc
 
 lambda_is : (s : Scope) (text : List ℕ) (w : Want) (a : Argument) → IsLambdaRead s text w (Ok a) → IsRead w a
 lambda_is s text w a (Err f, out, e) = absurd cc
-lambda_is s text w a (Ok l, out, e) = of_references w (first_cause (named_causes s l)) l a (judged_want (reads_cells s) text w l out) e
+lambda_is s text w a (Ok l, out, e) = of_references w (first_cause (named_causes s l)) l a
+    (judged_want (reads_cells s) text w l out) e
 
-operator_is : (b : Bool) (o : Option (Option Op)) (s : Scope) (text : List ℕ) (a : Argument) → IsOperatorRead b o s text (Ok a) → IsRead want.Pair a
+operator_is : (b : Bool) (o : Option (Option Op)) (s : Scope) (text : List ℕ) (a : Argument)
+    → IsOperatorRead b o s text (Ok a) → IsRead want.Pair a
 operator_is true o s text a e = subst (IsRead want.Pair) (ok_same exact a e) tt
 operator_is false (Some f) s text a e = of_listed f a e
 operator_is false None s text a h = lambda_is s text want.Pair a h
@@ -329,7 +357,8 @@ abbrev AreRead : Params → ℕ → ℕ → List (List Word) → Type 0
 AreRead p n i [] = Unit {0}
 AreRead p n i (a ∷ xs) = (number_cause (param_at p n i) a ≡ None) × AreRead p n (suc i) xs
 
-no_first : (c : Option Cause) (cs : List (Option Cause)) → first_cause (c ∷ cs) ≡ None → (c ≡ None) × (first_cause cs ≡ None)
+no_first : (c : Option Cause) (cs : List (Option Cause)) → first_cause (c ∷ cs) ≡ None
+    → (c ≡ None) × (first_cause cs ≡ None)
 no_first None cs e = (refl, e)
 no_first (Some c) cs e = absurd cc
 
@@ -338,16 +367,20 @@ no_both [] ds e = refl
 no_both (None ∷ cs) ds e = no_both cs ds e
 no_both (Some c ∷ cs) ds e = absurd cc
 
-are_read : (o : Operation) (n i : ℕ) (xs : List (List Word)) → first_cause (number_causes o n i xs) ≡ None → AreRead (params_of o) n i xs
+are_read : (o : Operation) (n i : ℕ) (xs : List (List Word)) → first_cause (number_causes o n i xs) ≡ None
+    → AreRead (params_of o) n i xs
 are_read o n i [] e = tt
-are_read o n i (a ∷ xs) e = let b = no_first (number_cause (param_of o n i) a) (number_causes o n (suc i) xs) e in (b.0, are_read o n (suc i) xs b.1)
+are_read o n i (a ∷ xs) e = let b = no_first (number_cause (param_of o n i) a) (number_causes o n (suc i) xs) e in
+    (b.0, are_read o n (suc i) xs b.1)
 
-are_read_early : (c : Call) → first_cause (early_causes c) ≡ None → AreRead (params_of c.operation) (length c.parts) 0 c.parts
+are_read_early : (c : Call) → first_cause (early_causes c) ≡ None
+    → AreRead (params_of c.operation) (length c.parts) 0 c.parts
 are_read_early c e =
     let n = length c.parts in
     let causes = number_causes c.operation n 0 c.parts in
     let last = values_cause (params_of c.operation) (numbers_of c.operation n 0 c.parts) in
-    are_read c.operation n 0 c.parts (no_both causes (last ∷ []) (no_first (count_of (params_of c.operation) n) (causes ++ last ∷ []) e).1)
+    are_read c.operation n 0 c.parts (no_both causes (last ∷ [])
+    (no_first (count_of (params_of c.operation) n) (causes ++ last ∷ []) e).1)
 
 -- a number that has a value
 abbrev HasValue : Option ℤ → Type 0
@@ -366,13 +399,15 @@ by_or true c h = inl refl
 by_or false c h = inr h
 
 far : (n m k : ℕ) → (n == m) || (n == k) ≡ true → m < n → k < n → ⊥
-far n m k h p q = ⊎_elim (λ (e : (n == m) ≡ true). let f = eqb-true n m e in omega arith) (λ (e : (n == k) ≡ true). let f = eqb-true n k e in omega arith) (by_or (n == m) (n == k) h)
+far n m k h p q = ⊎_elim (λ (e : (n == m) ≡ true). let f = eqb-true n m e in omega arith)
+    (λ (e : (n == k) ≡ true). let f = eqb-true n k e in omega arith) (by_or (n == m) (n == k) h)
 
 by_cells : (o : Option (List ℤ)) (a : Argument) → column_answer o ≡ Ok a → Accepted params.Column a []
 by_cells None a r = absurd cc
 by_cells (Some cells) a r = subst (λ v. Accepted params.Column v []) (ok_same (column cells) a r) tt
 
-column_is : (s : Scope) (o : Option (List ℕ)) (p : Option ℕ) (a : Argument) → is_some o ≡ true → is_some p ≡ true → key_answer s (keyed o p) ≡ Ok a → Accepted params.Column a []
+column_is : (s : Scope) (o : Option (List ℕ)) (p : Option ℕ) (a : Argument) → is_some o ≡ true → is_some p ≡ true
+    → key_answer s (keyed o p) ≡ Ok a → Accepted params.Column a []
 column_is s None p a fit known r = let e : false ≡ true = fit in absurd cc
 column_is s o None a fit known r = let e : false ≡ true = known in absurd cc
 column_is s (Some w) (Some p) a fit known r = by_cells _ a r
@@ -381,7 +416,8 @@ by_given : (w : List ℕ) (g : Option Gives) (a : Argument) → result_answer w 
 by_given w (Some gives.Array) a r = subst (λ v. Accepted params.Job v []) (ok_same (job w) a r) tt
 by_given w x a r = absurd cc
 
-job_is : (s : Scope) (o : Option (List ℕ)) (a : Argument) → is_some o ≡ true → name_answer s o ≡ Ok a → Accepted params.Job a []
+job_is : (s : Scope) (o : Option (List ℕ)) (a : Argument) → is_some o ≡ true → name_answer s o ≡ Ok a
+    → Accepted params.Job a []
 job_is s None a fit r = let e : false ≡ true = fit in absurd cc
 job_is s (Some w) a fit r = by_given w _ a r
 
@@ -402,7 +438,8 @@ pair_is (operator f) h = (tt, tt)
 pair_is exact h = (tt, tt)
 pair_is a h = absurd h
 
-positions_are : (a : Argument) (j k : Option ℤ) → HasValue j → HasValue k → IsRead want.Pair a → Accepted params.Positions a (as_list j ++ as_list k)
+positions_are : (a : Argument) (j k : Option ℤ) → HasValue j → HasValue k → IsRead want.Pair a
+    → Accepted params.Positions a (as_list j ++ as_list k)
 positions_are (operator f) (Some j) (Some k) v w h = tt
 positions_are exact (Some j) (Some k) v w h = tt
 positions_are a None k v w h = absurd cc
@@ -419,55 +456,88 @@ bounds_are : (j k : Option ℤ) → HasValue j → HasValue k → Accepted param
 bounds_are (Some j) (Some k) v w = tt
 bounds_are j k v w = absurd cc
 
-number_is : (k : Option ℤ) → HasValue k → Accepted params.Number nothing (as_list k) × Accepted params.Count nothing (as_list k)
+number_is : (k : Option ℤ) → HasValue k → Accepted params.Number nothing (as_list k)
+    × Accepted params.Count nothing (as_list k)
 number_is (Some k) v = (tt, tt)
 number_is None v = absurd cc
 
-no_number_read : (p : Params) (ks : List ℤ) (a : Argument) → Accepted p nothing ks → ◌≡◌ {A = Result Argument Cause} (Ok nothing) (Ok a) → Accepted p a ks
+no_number_read : (p : Params) (ks : List ℤ) (a : Argument) → Accepted p nothing ks
+    → ◌≡◌ {A = Result Argument Cause} (Ok nothing) (Ok a) → Accepted p a ks
 no_number_read p ks a h r = subst (λ v. Accepted p v ks) (ok_same nothing a r) h
 
 same_two : (j k : Option ℤ) → as_list j ++ as_list k ≡ as_list j ++ (as_list k ++ [])
 same_two j k = ap (λ v. as_list j ++ v) (sym (append-nil (as_list k)))
 
 -- what the parts of a call are read as, its row takes
-accepted : (p : Params) (xs : List (List Word)) (s : Scope) (text : List ℕ) (a : Argument) → allowed p (length xs) ≡ true → FitAt p (length xs) 0 xs → AreRead p (length xs) 0 xs → IsReadBy (last_at p xs) s xs text (Ok a) → Accepted p a (numbers_at p (length xs) 0 xs)
+accepted : (p : Params) (xs : List (List Word)) (s : Scope) (text : List ℕ) (a : Argument)
+    → allowed p (length xs) ≡ true → FitAt p (length xs) 0 xs → AreRead p (length xs) 0 xs
+    → IsReadBy (last_at p xs) s xs text (Ok a) → Accepted p a (numbers_at p (length xs) 0 xs)
 accepted params.Nothing [] s text a al fit read r = no_number_read params.Nothing [] a tt r
-accepted params.Nothing (x ∷ xs) s text a al fit read r = let e = eqb-true (length (x ∷ xs)) 0 al in absurd (omega arith)
-accepted params.Bounds (x ∷ y ∷ []) s text a al fit read r = no_number_read params.Bounds (as_list (number_read x) ++ (as_list (number_read y) ++ [])) a (subst (Accepted params.Bounds nothing) (same_two (number_read x) (number_read y)) (bounds_are (number_read x) (number_read y) read.0 read.1.0)) r
-accepted params.Bounds (x ∷ y ∷ z ∷ xs) s text a al fit read r = let e = eqb-true (length (x ∷ y ∷ z ∷ xs)) 2 al in absurd (omega arith)
+accepted params.Nothing (x ∷ xs) s text a al fit read r = let e = eqb-true (length (x ∷ xs)) 0 al in
+    absurd (omega arith)
+accepted params.Bounds (x ∷ y ∷ []) s text a al fit read r =
+    no_number_read params.Bounds (as_list (number_read x) ++ (as_list (number_read y) ++ [])) a
+    (subst (Accepted params.Bounds nothing) (same_two (number_read x) (number_read y))
+    (bounds_are (number_read x) (number_read y) read.0 read.1.0)) r
+accepted params.Bounds (x ∷ y ∷ z ∷ xs) s text a al fit read r = let e = eqb-true (length (x ∷ y ∷ z ∷ xs)) 2 al in
+    absurd (omega arith)
 accepted params.Values [] s text a al fit read r = no_number_read params.Values [] a tt r
-accepted params.Values (x ∷ xs) s text a al fit read r = no_number_read params.Values (numbers_at params.Values (length (x ∷ xs)) 0 (x ∷ xs)) a tt r
-accepted params.Number (x ∷ []) s text a al fit read r = no_number_read params.Number (as_list (number_read x) ++ []) a (subst (Accepted params.Number nothing) (sym (append-nil (as_list (number_read x)))) (number_is (number_read x) read.0).0) r
-accepted params.Count (x ∷ []) s text a al fit read r = no_number_read params.Count (as_list (number_read x) ++ []) a (subst (Accepted params.Count nothing) (sym (append-nil (as_list (number_read x)))) (number_is (number_read x) read.0).1) r
+accepted params.Values (x ∷ xs) s text a al fit read r =
+    no_number_read params.Values (numbers_at params.Values (length (x ∷ xs)) 0 (x ∷ xs)) a tt r
+accepted params.Number (x ∷ []) s text a al fit read r =
+    no_number_read params.Number (as_list (number_read x) ++ []) a
+    (subst (Accepted params.Number nothing) (sym (append-nil (as_list (number_read x))))
+    (number_is (number_read x) read.0).0) r
+accepted params.Count (x ∷ []) s text a al fit read r =
+    no_number_read params.Count (as_list (number_read x) ++ []) a
+    (subst (Accepted params.Count nothing) (sym (append-nil (as_list (number_read x))))
+    (number_is (number_read x) read.0).1) r
 accepted params.Column (x ∷ []) s text a al fit read r = column_is s (string_in x) (Some 0) a fit.0 refl r
 accepted params.Column (x ∷ y ∷ []) s text a al fit read r = column_is s (string_in x) (places_in y) a fit.0 fit.1.0 r
-accepted params.Column (x ∷ y ∷ z ∷ xs) s text a al fit read r = absurd (far (length (x ∷ y ∷ z ∷ xs)) 1 2 al (omega arith) (omega arith))
+accepted params.Column (x ∷ y ∷ z ∷ xs) s text a al fit read r =
+    absurd (far (length (x ∷ y ∷ z ∷ xs)) 1 2 al (omega arith) (omega arith))
 accepted params.Job (x ∷ []) s text a al fit read r = job_is s (name_in x) a fit.0 r
 accepted params.Long (x ∷ []) s text a al fit read r = long_is a (lambda_is s text want.Long a r)
 accepted params.Test (x ∷ []) s text a al fit read r = test_is a (lambda_is s text want.Bool a r)
 accepted params.Stream (x ∷ []) s text a al fit read r = stream_is a (lambda_is s text want.Stream a r)
-accepted params.Positions (x ∷ []) s text a al fit read r = (pair_is a (operator_is (is_add_exact x) (spelled_op x) s text a r)).0
-accepted params.Positions (x ∷ y ∷ z ∷ []) s text a al fit read r = subst (Accepted params.Positions a) (same_two (number_read x) (number_read y)) (positions_are a (number_read x) (number_read y) read.0 read.1.0 (operator_is (is_add_exact z) (spelled_op z) s text a r))
-accepted params.Positions (x ∷ y ∷ z ∷ w ∷ xs) s text a al fit read r = absurd (far (length (x ∷ y ∷ z ∷ w ∷ xs)) 1 3 al (omega arith) (omega arith))
-accepted params.Identity (x ∷ []) s text a al fit read r = (pair_is a (operator_is (is_add_exact x) (spelled_op x) s text a r)).1
-accepted params.Identity (x ∷ y ∷ []) s text a al fit read r = subst (Accepted params.Identity a) (sym (append-nil (as_list (number_read x)))) (identity_is a (number_read x) read.0 (operator_is (is_add_exact y) (spelled_op y) s text a r))
-accepted params.Identity (x ∷ y ∷ z ∷ xs) s text a al fit read r = absurd (far (length (x ∷ y ∷ z ∷ xs)) 1 2 al (omega arith) (omega arith))
+accepted params.Positions (x ∷ []) s text a al fit read r =
+    (pair_is a (operator_is (is_add_exact x) (spelled_op x) s text a r)).0
+accepted params.Positions (x ∷ y ∷ z ∷ []) s text a al fit read r =
+    subst (Accepted params.Positions a) (same_two (number_read x) (number_read y))
+    (positions_are a (number_read x) (number_read y) read.0 read.1.0
+    (operator_is (is_add_exact z) (spelled_op z) s text a r))
+accepted params.Positions (x ∷ y ∷ z ∷ w ∷ xs) s text a al fit read r =
+    absurd (far (length (x ∷ y ∷ z ∷ w ∷ xs)) 1 3 al (omega arith) (omega arith))
+accepted params.Identity (x ∷ []) s text a al fit read r =
+    (pair_is a (operator_is (is_add_exact x) (spelled_op x) s text a r)).1
+accepted params.Identity (x ∷ y ∷ []) s text a al fit read r =
+    subst (Accepted params.Identity a) (sym (append-nil (as_list (number_read x))))
+    (identity_is a (number_read x) read.0 (operator_is (is_add_exact y) (spelled_op y) s text a r))
+accepted params.Identity (x ∷ y ∷ z ∷ xs) s text a al fit read r =
+    absurd (far (length (x ∷ y ∷ z ∷ xs)) 1 2 al (omega arith) (omega arith))
 accepted params.Positions (x ∷ y ∷ []) s text a al fit read r = absurd cc
 accepted params.Sources xs s text a al fit read r = absurd cc
 accepted p (x ∷ y ∷ xs) s text a al fit read r = let e = eqb-true (length (x ∷ y ∷ xs)) 1 al in absurd (omega arith)
 accepted p xs s text a al fit read r = absurd cc
 
-by_cause : (f : Option Cause) (s : Scope) (t : TokenizedText) (c : PlacedCall) → IsCall c.call → (f ≡ None → AreRead (params_of c.call.operation) (length c.call.parts) 0 c.call.parts) → (f ≡ Some cause.Syntax → ⊥) → IsReadAfter f s t c (Err cause.Syntax) → ⊥
+by_cause : (f : Option Cause) (s : Scope) (t : TokenizedText) (c : PlacedCall) → IsCall c.call
+    → (f ≡ None → AreRead (params_of c.call.operation) (length c.call.parts) 0 c.call.parts)
+    → (f ≡ Some cause.Syntax → ⊥) → IsReadAfter f s t c (Err cause.Syntax) → ⊥
 by_cause (Some e) s t c call valued h r = let same : e ≡ cause.Syntax = cc in h (ap Some same)
 by_cause None s t c call valued h (Err e, arg, eq) =
     let same : e ≡ cause.Syntax = cc in
-    no_part (last_param c.call.operation c.call.parts) s c.call.parts (argument_text t c).bytes (subst (λ v. IsArgumentRead s t c (Err v)) same arg)
+    no_part (last_param c.call.operation c.call.parts) s c.call.parts (argument_text t c).bytes
+    (subst (λ v. IsArgumentRead s t c (Err v)) same arg)
 by_cause None s t c call valued h (Ok a, arg, eq) =
     let o = c.call.operation in
     let xs = c.call.parts in
     let read = subst (λ p. IsReadBy p s xs (argument_text t c).bytes (Ok a)) (last_are o xs) arg in
-    let fine = accepted (params_of o) xs s (argument_text t c).bytes a call.allowed (fit_at o (length xs) 0 xs call.fit) (valued refl) read in
-    builds (row o) a (numbers_of o (length xs) 0 xs) (subst (Accepted (params_of o) a) (sym (numbers_are o (length xs) 0 xs)) fine) eq
+    let fine = accepted (params_of o) xs s (argument_text t c).bytes a call.allowed (fit_at o (length xs) 0 xs call.fit)
+    (valued refl) read in
+    builds (row o) a (numbers_of o (length xs) 0 xs)
+    (subst (Accepted (params_of o) a) (sym (numbers_are o (length xs) 0 xs)) fine) eq
 
-pub no_syntax_fault : (s : Scope) (t : TokenizedText) (c : PlacedCall) → IsCall c.call → IsCallRead s t c (Err cause.Syntax) → ⊥
-no_syntax_fault s t c call r = by_cause (first_cause (early_causes c.call)) s t c call (are_read_early c.call) (no_early c.call) r
+pub no_syntax_fault : (s : Scope) (t : TokenizedText) (c : PlacedCall) → IsCall c.call
+    → IsCallRead s t c (Err cause.Syntax) → ⊥
+no_syntax_fault s t c call r = by_cause (first_cause (early_causes c.call)) s t c call (are_read_early c.call)
+    (no_early c.call) r

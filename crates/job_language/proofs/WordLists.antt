@@ -1,5 +1,6 @@
 -- The words of a text, place by place, and those of a part of it.
-use Rattle.std.proofs.Common.{◌≡◌, ℕ, suc, ◌+◌, ◌-◌, ◌<◌, ◌≤◌, true, false, List, [], ◌∷◌, length, take, drop, get_or, Option, Some, None, refl, sym, ap, ◌∙◌, arith}
+use Rattle.std.proofs.Common.{◌≡◌, ℕ, suc, ◌+◌, ◌-◌, ◌<◌, ◌≤◌, true, false, List, [], ◌∷◌, length, take, drop, get_or}
+use Rattle.std.proofs.Common.{Option, Some, None, refl, sym, ap, ◌∙◌, arith}
 use Rattle.std.specs.Prelude.{◌&&◌, is_some, option_map, slice_range}
 use Rattle.std.specs.List.{list_all}
 use Rattle.std.specs.Option.{unwrap_or}
@@ -22,22 +23,27 @@ words_take : (text : List ℕ) (n : ℕ) (ts : List Token) → words_of text (ta
 words_take text (suc n) (t ∷ ts) = ap (λ vs. word_of text t ∷ vs) (words_take text n ts)
 words_take text x ts = refl
 
-words_slice : (text : List ℕ) (ts : List Token) (a b : ℕ) → words_of text (slice_range ts a b) ≡ slice_range (words_of text ts) a b
+words_slice : (text : List ℕ) (ts : List Token) (a b : ℕ)
+    → words_of text (slice_range ts a b) ≡ slice_range (words_of text ts) a b
 words_slice text ts a b = words_take text (b - a) (drop a ts) ∙ ap (take (b - a)) (words_drop text a ts)
 
 -- words are the same in a part of the text
-words_from : (text : List ℕ) (a c b : ℕ) (ts : List Token) → a ≤ c → CutBetween text c ts b → words_of (slice_range text a b) (shifted a ts) ≡ words_of text ts
+words_from : (text : List ℕ) (a c b : ℕ) (ts : List Token) → a ≤ c → CutBetween text c ts b
+    → words_of (slice_range text a b) (shifted a ts) ≡ words_of text ts
 words_from text a c b [] h k = refl
 words_from text a c b (t ∷ ts) h k =
     let low = k.0 in
     let some = k.2 in
-    ap (λ w. word_for t.kind w ∷ words_of (slice_range text a b) (shifted a ts)) (part_of text a b t.from t.to (omega arith) (omega arith) (cut_bound text t.to ts b k.4))
+    ap (λ w. word_for t.kind w ∷ words_of (slice_range text a b) (shifted a ts))
+    (part_of text a b t.from t.to (omega arith) (omega arith) (cut_bound text t.to ts b k.4))
     ∙ ap (λ v. word_of text t ∷ v) (words_from text a t.to b ts (omega arith) k.4)
 
-words_between : (t : TokenizedText) (i j : ℕ) (d : Token) → AreTokensOf t.tokens t.bytes → i < j → j < length t.tokens → words_in (between t (get_or t.tokens i d) (get_or t.tokens j d) i j) ≡ slice_range (words_in t) (i + 1) j
+words_between : (t : TokenizedText) (i j : ℕ) (d : Token) → AreTokensOf t.tokens t.bytes → i < j → j < length t.tokens
+    → words_in (between t (get_or t.tokens i d) (get_or t.tokens j d) i j) ≡ slice_range (words_in t) (i + 1) j
 words_between t i j d cut lt less =
     let a = (get_or t.tokens i d).to in
-    words_from t.bytes a a (get_or t.tokens j d).from (slice_range t.tokens (i + 1) j) (omega arith) (part_between t.bytes 0 (length t.bytes) t.tokens i j d lt less cut)
+    words_from t.bytes a a (get_or t.tokens j d).from (slice_range t.tokens (i + 1) j) (omega arith)
+    (part_between t.bytes 0 (length t.bytes) t.tokens i j d lt less cut)
     ∙ words_slice t.bytes t.tokens (i + 1) j
 
 slice_after : (ws : List Word) (o a b : ℕ) → slice_range ws (o + a + 1) (o + 1 + b) ≡ slice_range (drop (o + 1) ws) a b
@@ -47,8 +53,12 @@ slice_after ws o a b =
     ap (λ n. take n (drop (o + a + 1) ws)) e ∙ ap (take (b - a)) (ap (λ n. drop n ws) f ∙ sym (drop-drop a (o + 1) ws))
 
 -- a part of a call, counted from the word after its parenthesis
-pub part_words : (t : TokenizedText) (o a b : ℕ) (d : Token) → AreTokensOf t.tokens t.bytes → a ≤ b → o + 1 + b < length t.tokens → words_in (between t (get_or t.tokens (o + a) d) (get_or t.tokens (o + 1 + b) d) (o + a) (o + 1 + b)) ≡ slice_range (drop (o + 1) (words_in t)) a b
-part_words t o a b d cut le less = words_between t (o + a) (o + 1 + b) d cut (omega arith) less ∙ slice_after (words_in t) o a b
+pub part_words : (t : TokenizedText) (o a b : ℕ) (d : Token) → AreTokensOf t.tokens t.bytes → a ≤ b
+    → o + 1 + b < length t.tokens → words_in
+    (between t (get_or t.tokens (o + a) d) (get_or t.tokens (o + 1 + b) d) (o + a) (o + 1 + b))
+    ≡ slice_range (drop (o + 1) (words_in t)) a b
+part_words t o a b d cut le less = words_between t (o + a) (o + 1 + b) d cut (omega arith) less
+    ∙ slice_after (words_in t) o a b
 
 pub some_words : (ws : List Word) → (length ws ≡ 0 → ⊥) → true ≡ has_words ws
 some_words [] h = absurd (h refl)
@@ -71,7 +81,9 @@ first_is (named n ∷ ws) = refl
 first_is (a ∷ ws) = refl
 
 -- whether the words from a place on are sound, word by word
-pub sound_on : (ws : List Word) (i : ℕ) (w : Word) → i < length ws → w ≡ get_or ws i bad → list_all is_sound ws ≡ list_all is_sound (drop i ws) → list_all is_sound ws ≡ is_sound w && list_all is_sound (drop (i + 1) ws)
+pub sound_on : (ws : List Word) (i : ℕ) (w : Word) → i < length ws → w ≡ get_or ws i bad
+    → list_all is_sound ws ≡ list_all is_sound (drop i ws)
+    → list_all is_sound ws ≡ is_sound w && list_all is_sound (drop (i + 1) ws)
 sound_on ws i w lt is h = h ∙ ap (list_all is_sound) (drop_more ws i bad lt ∙ ap (λ v. v ∷ drop (i + 1) ws) (sym is))
 
 -- a word that is read of some words
@@ -79,6 +91,7 @@ pub is_mapped : {A B : Type 0} (f : A → B) (o : Option A) → is_some o ≡ is
 is_mapped f None = refl
 is_mapped f (Some x) = refl
 
-pub unwrap_mapped : {A B : Type 0} (f : A → B) (o : Option A) (d : A) → f (unwrap_or o d) ≡ unwrap_or (option_map f o) (f d)
+pub unwrap_mapped : {A B : Type 0} (f : A → B) (o : Option A) (d : A)
+    → f (unwrap_or o d) ≡ unwrap_or (option_map f o) (f d)
 unwrap_mapped f None d = refl
 unwrap_mapped f (Some x) d = refl

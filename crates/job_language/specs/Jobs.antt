@@ -60,7 +60,8 @@ given_by (find (none_match p)) = gives.Boolean
 given_by exact_sum = gives.Number
 
 -- an abstract job: its name in bytes, its plain sources in order of writing, its stages, its terminal, the number of
--- `onFault`, if there is one, and the columns whose rows the items are; none if the items are no rows, or if lambdas may
+-- `onFault`, if there is one, and the columns whose rows the items are; none if the items are no rows, or if lambdas
+-- may
 -- have no cells
 pub record AbstractJob : Type 0 where
   pub name : List ℕ

@@ -20,6 +20,9 @@
 //! the grammar `shape.rt`. Which texts are refused, and why, is tested over the program (`tests/soak/refused.txt`).
 //!
 //! Not promised: that memory is there.
+//!
+//! Tested: `refusals.rt`, `shown.rt` of `test_engine`; `decimal_jobs.rt` of `test_low`; runs of the programs in
+//! `tests`.
 #![tactic(auto)]
 
 mod argument;

@@ -1,5 +1,7 @@
 -- Expressions of numbers of 64 bits have values of 64 bits.
-use Rattle.std.proofs.Common.{◌≡◌, ℕ, zero, suc, ◌/◌, ◌%◌, ◌≤◌, ◌^◌, ℤ, pos, negsuc, neg_ℤ, ◌+ℤ◌, ◌-ℤ◌, ◌*ℤ◌, ◌≤ℤ◌, Bool, true, false, if◌then◌else◌, int_lt, unsigned_abs, List, [], ◌∷◌, Option, Some, None, Result, Ok, Err, FitsSigned, w64, refl, arith}
+use Rattle.std.proofs.Common.{◌≡◌, ℕ, zero, suc, ◌/◌, ◌%◌, ◌≤◌, ◌^◌, ℤ, pos, negsuc, neg_ℤ, ◌+ℤ◌, ◌-ℤ◌, ◌*ℤ◌, ◌≤ℤ◌}
+use Rattle.std.proofs.Common.{Bool, true, false, if◌then◌else◌, int_lt, unsigned_abs, List, [], ◌∷◌, Option, Some, None}
+use Rattle.std.proofs.Common.{Result, Ok, Err, FitsSigned, w64, refl, arith}
 use Rattle.std.specs.Prelude.{int_rem, nat_lt, nat_eq, slice_index_or, unwrap_or}
 use Rattle.std.specs.Cmp.Lexicographic.{pointwise}
 use Rattle.std.specs.Int.{int_bit_and, int_bit_or, int_bit_xor}
@@ -17,8 +19,10 @@ use Rattle.lambda_values.specs.declared.operator.UnaryOperator.TheVariants as un
 use Rattle.lambda_values.specs.declared.operator.BinaryOperator.{BinaryOperator}
 use Rattle.lambda_values.specs.declared.operator.BinaryOperator.TheVariants as binary_operator
 use Rattle.lambda_values.specs.Earlier.{Numbers, cell_at, number_under}
-use Rattle.lambda_values.specs.Operators.{binary_value, divided, exact, is_long, low_six_bits, on, rounded_down, unary_value}
-use Rattle.lambda_values.specs.Streams.{Inner, range, range_closed, values, counted, distance, each_value, inner_value, through, up_from}
+use Rattle.lambda_values.specs.Operators.{binary_value, divided, exact, is_long, low_six_bits, on, rounded_down}
+use Rattle.lambda_values.specs.Operators.{unary_value}
+use Rattle.lambda_values.specs.Streams.{Inner, range, range_closed, values, counted, distance, each_value, inner_value}
+use Rattle.lambda_values.specs.Streams.{through, up_from}
 use Rattle.lambda_values.specs.Term.{Long, number, parameter, reference, cell, row, unary, binary, choose}
 use Rattle.lambda_values.specs.Value.{chosen, long_value, truth_value}
 use Rattle.lambda_values.specs.Wrap.{wrap}
@@ -75,7 +79,8 @@ negated_fits (suc r) within = omega (arith, within)
 
 remainder_fits : (x y : ℤ) → Fits x → Fits (int_rem x y)
 remainder_fits (pos a) y f = omega (arith, mod_within a (unsigned_abs y), f)
-remainder_fits (negsuc a) y f = negated_fits (suc a % unsigned_abs y) (omega (arith, mod_within (suc a) (unsigned_abs y), f))
+remainder_fits (negsuc a) y f = negated_fits (suc a % unsigned_abs y)
+    (omega (arith, mod_within (suc a) (unsigned_abs y), f))
 
 quotient_within : (a m : ℕ) → a / suc m ≤ a
 quotient_within a m = omega arith
@@ -102,9 +107,12 @@ binary_fits binary_operator.Remainder x y f g = divided_fits y (int_rem x y) (re
 binary_fits binary_operator.ShiftLeft x y f g = wrap_fits (x *ℤ pos (2 ^ low_six_bits y))
 binary_fits binary_operator.ShiftRight x y f g = down_fits x (2 ^ low_six_bits y) f
 binary_fits binary_operator.ShiftRightUnsigned x y f g = wrap_fits _
-binary_fits binary_operator.And x y f g = of_signed (int_bit_and w64 x y) ((and_places x y (as_signed x f) (as_signed y g)).0)
-binary_fits binary_operator.Xor x y f g = of_signed (int_bit_xor w64 x y) ((xor_places x y (as_signed x f) (as_signed y g)).0)
-binary_fits binary_operator.Or x y f g = of_signed (int_bit_or w64 x y) ((or_places x y (as_signed x f) (as_signed y g)).0)
+binary_fits binary_operator.And x y f g =
+    of_signed (int_bit_and w64 x y) ((and_places x y (as_signed x f) (as_signed y g)).0)
+binary_fits binary_operator.Xor x y f g =
+    of_signed (int_bit_xor w64 x y) ((xor_places x y (as_signed x f) (as_signed y g)).0)
+binary_fits binary_operator.Or x y f g =
+    of_signed (int_bit_or w64 x y) ((or_places x y (as_signed x f) (as_signed y g)).0)
 binary_fits binary_operator.Min x y f g = chosen_number (int_lt y x) y x g f
 binary_fits binary_operator.Max x y f g = chosen_number (int_lt y x) x y f g
 binary_fits binary_operator.FloorDivide x y f g = divided_fits y _ (wrap_fits _)
@@ -121,7 +129,8 @@ under_by false z o f g = g
 
 under_fits : (name : List ℕ) (ns : List NamedNumber) → NumbersFit ns → OptionFits (number_under name ns)
 under_fits name [] h = tt
-under_fits name (n ∷ ns) h = under_by (pointwise nat_eq n.name name) n.number (number_under name ns) h.0 (under_fits name ns h.1)
+under_fits name (n ∷ ns) h = under_by (pointwise nat_eq n.name name) n.number (number_under name ns) h.0
+    (under_fits name ns h.1)
 
 or_zero : (o : Option ℤ) → OptionFits o → Fits (unwrap_or o (pos 0))
 or_zero None h = omega arith
@@ -140,7 +149,8 @@ cell_fits : (i : ℕ) (o : Option (List ℤ)) → cells_fit o → Fits (cell_at 
 cell_fits i None h = omega arith
 cell_fits i (Some cells) h = indexed_fits cells i h
 
-named_by : (b : Bool) (name : List ℕ) (c : NamedColumn) (cs : List NamedColumn) → bytes_eq c.name name ≡ b → AllFit c.cells → cells_fit (cells_named name cs) → cells_fit (cells_named name (c ∷ cs))
+named_by : (b : Bool) (name : List ℕ) (c : NamedColumn) (cs : List NamedColumn) → bytes_eq c.name name ≡ b
+    → AllFit c.cells → cells_fit (cells_named name cs) → cells_fit (cells_named name (c ∷ cs))
 named_by true name c cs e f g = rw e f
 named_by false name c cs e f g = rw e g
 
@@ -150,46 +160,59 @@ named_fits name (c ∷ cs) h = named_by (bytes_eq c.name name) name c cs refl h.
 
 -- ---- expressions
 
-on_fits : (r : Result ℤ FaultKind) (f : ℤ → Result ℤ FaultKind) → ValueFits r → ((v : ℤ) → Fits v → ValueFits (f v)) → ValueFits (on r f)
+on_fits : (r : Result ℤ FaultKind) (f : ℤ → Result ℤ FaultKind) → ValueFits r → ((v : ℤ) → Fits v → ValueFits (f v))
+    → ValueFits (on r f)
 on_fits (Ok v) f h k = k v h
 on_fits (Err e) f h k = tt
 
-tested_fits : (r : Result Bool FaultKind) (a b : Result ℤ FaultKind) → ValueFits a → ValueFits b → ValueFits (on r (λ t. chosen t a b))
+tested_fits : (r : Result Bool FaultKind) (a b : Result ℤ FaultKind) → ValueFits a → ValueFits b
+    → ValueFits (on r (λ t. chosen t a b))
 tested_fits (Ok true) a b f g = f
 tested_fits (Ok false) a b f g = g
 tested_fits (Err e) a b f g = tt
 
-pub long_fits : (e : Long) (x : Item) (env : Numbers) → LongFits e → Fits x.value → EnvFits env → ValueFits (long_value e x env)
+pub long_fits : (e : Long) (x : Item) (env : Numbers) → LongFits e → Fits x.value → EnvFits env
+    → ValueFits (long_value e x env)
 long_fits (number z) x env h i k = h
 long_fits (parameter n) x env h i k = i
 long_fits (reference name) x env h i k = or_zero (number_under name env.earlier) (under_fits name env.earlier k.0)
 long_fits (cell name) x env h i k = cell_fits x.origin (cells_named name env.table) (named_fits name env.table k.1)
 long_fits row x env h i k = wrap_fits (pos x.origin)
-long_fits (unary o a) x env h i k = on_fits (long_value a x env) (λ v. unary_value o v) (long_fits a x env h i k) (unary_fits o)
+long_fits (unary o a) x env h i k = on_fits (long_value a x env) (λ v. unary_value o v) (long_fits a x env h i k)
+    (unary_fits o)
 long_fits (binary o a b) x env h i k =
     on_fits (long_value a x env) (λ v. on (long_value b x env) (λ w. binary_value o v w)) (long_fits a x env h.0 i k)
-    (λ v f. on_fits (long_value b x env) (λ w. binary_value o v w) (long_fits b x env h.1 i k) (λ w g. binary_fits o v w f g))
-long_fits (choose c a b) x env h i k = tested_fits (truth_value c x env) (long_value a x env) (long_value b x env) (long_fits a x env h.0 i k) (long_fits b x env h.1 i k)
+    (λ v f. on_fits (long_value b x env) (λ w. binary_value o v w) (long_fits b x env h.1 i k)
+    (λ w g. binary_fits o v w f g))
+long_fits (choose c a b) x env h i k = tested_fits (truth_value c x env) (long_value a x env) (long_value b x env)
+    (long_fits a x env h.0 i k) (long_fits b x env h.1 i k)
 
 -- ---- inner streams
 
-pub counted_fit : (a : ℤ) (n : ℕ) → negsuc 9223372036854775807 ≤ℤ a → (a +ℤ pos n) ≤ℤ pos 9223372036854775808 → AllFit (counted a n)
+pub counted_fit : (a : ℤ) (n : ℕ) → negsuc 9223372036854775807 ≤ℤ a → (a +ℤ pos n) ≤ℤ pos 9223372036854775808
+    → AllFit (counted a n)
 counted_fit a zero low high = tt
-counted_fit a (suc n) low high =
-    (of_signed a (omega (arith, ints, fits_in, low, high)), counted_fit (a +ℤ pos 1) n (omega (arith, ints, low)) (omega (arith, ints, high)))
+counted_fit a (suc n) low high = (
+  of_signed a (omega (arith, ints, fits_in, low, high)),
+  counted_fit (a +ℤ pos 1) n (omega (arith, ints, low)) (omega (arith, ints, high)),
+)
 
-range_by : (b : Bool) (v w : ℤ) → int_lt v w ≡ b → Fits v → Fits w → AllFit (counted v (if b then unsigned_abs (w -ℤ v) else 0))
+range_by : (b : Bool) (v w : ℤ) → int_lt v w ≡ b → Fits v → Fits w
+    → AllFit (counted v (if b then unsigned_abs (w -ℤ v) else 0))
 range_by true v w e f g =
-    counted_fit v (unsigned_abs (w -ℤ v)) (omega (arith, ints, fits_out w64 v (as_signed v f))) (omega (arith, ints, fits_out w64 w (as_signed w g), e))
+    counted_fit v (unsigned_abs (w -ℤ v)) (omega (arith, ints, fits_out w64 v (as_signed v f)))
+    (omega (arith, ints, fits_out w64 w (as_signed w g), e))
 range_by false v w e f g = tt
 
 pub range_fits : (v w : ℤ) → Fits v → Fits w → AllFit (counted v (distance v w))
 range_fits v w f g = range_by (int_lt v w) v w refl f g
 
-closed_by : (b : Bool) (v w : ℤ) → int_lt w v ≡ b → Fits v → Fits w → AllFit (counted v (if b then 0 else suc (unsigned_abs (w -ℤ v))))
+closed_by : (b : Bool) (v w : ℤ) → int_lt w v ≡ b → Fits v → Fits w
+    → AllFit (counted v (if b then 0 else suc (unsigned_abs (w -ℤ v))))
 closed_by true v w e f g = tt
 closed_by false v w e f g =
-    counted_fit v (suc (unsigned_abs (w -ℤ v))) (omega (arith, ints, fits_out w64 v (as_signed v f))) (omega (arith, ints, fits_out w64 w (as_signed w g), e))
+    counted_fit v (suc (unsigned_abs (w -ℤ v))) (omega (arith, ints, fits_out w64 v (as_signed v f)))
+    (omega (arith, ints, fits_out w64 w (as_signed w g), e))
 
 through_fits : (v w : ℤ) → Fits v → Fits w → AllFit (counted v (through v w))
 through_fits v w f g = closed_by (int_lt w v) v w refl f g
@@ -201,7 +224,8 @@ up_by false a n e h = rw e h
 up_fits : (a : ℤ) (n : ℕ) → AllFit (counted a n) → ValuesFit (up_from a n)
 up_fits a n h = up_by (nat_lt (2 ^ 62) n) a n refl h
 
-then_fit : (r : Result ℤ FaultKind) (f : ℤ → Result (List ℤ) FaultKind) → ValueFits r → ((v : ℤ) → Fits v → ValuesFit (f v)) → ValuesFit (on r f)
+then_fit : (r : Result ℤ FaultKind) (f : ℤ → Result (List ℤ) FaultKind) → ValueFits r
+    → ((v : ℤ) → Fits v → ValuesFit (f v)) → ValuesFit (on r f)
 then_fit (Ok v) f h k = k v h
 then_fit (Err e) f h k = tt
 
@@ -209,17 +233,23 @@ more_fit : (v : ℤ) (r : Result (List ℤ) FaultKind) → Fits v → ValuesFit 
 more_fit v (Ok vs) f h = (f, h)
 more_fit v (Err e) f h = tt
 
-each_fit : (es : List Long) (x : Item) (env : Numbers) → EachFits es → Fits x.value → EnvFits env → ValuesFit (each_value es x env)
+each_fit : (es : List Long) (x : Item) (env : Numbers) → EachFits es → Fits x.value → EnvFits env
+    → ValuesFit (each_value es x env)
 each_fit [] x env h i k = tt
 each_fit (e ∷ es) x env h i k =
     then_fit (long_value e x env) (λ v. on (each_value es x env) (λ vs. Ok (v ∷ vs))) (long_fits e x env h.0 i k)
     (λ v f. more_fit v (each_value es x env) f (each_fit es x env h.1 i k))
 
-pub inner_fits : (g : Inner) (x : Item) (env : Numbers) → InnerFits g → Fits x.value → EnvFits env → ValuesFit (inner_value g x env)
+pub inner_fits : (g : Inner) (x : Item) (env : Numbers) → InnerFits g → Fits x.value → EnvFits env
+    → ValuesFit (inner_value g x env)
 inner_fits (range a b) x env h i k =
-    then_fit (long_value a x env) (λ v. on (long_value b x env) (λ w. up_from v (distance v w))) (long_fits a x env h.0 i k)
-    (λ v f. then_fit (long_value b x env) (λ w. up_from v (distance v w)) (long_fits b x env h.1 i k) (λ w g. up_fits v (distance v w) (range_fits v w f g)))
+    then_fit (long_value a x env) (λ v. on (long_value b x env) (λ w. up_from v (distance v w)))
+    (long_fits a x env h.0 i k)
+    (λ v f. then_fit (long_value b x env) (λ w. up_from v (distance v w)) (long_fits b x env h.1 i k)
+    (λ w g. up_fits v (distance v w) (range_fits v w f g)))
 inner_fits (range_closed a b) x env h i k =
-    then_fit (long_value a x env) (λ v. on (long_value b x env) (λ w. up_from v (through v w))) (long_fits a x env h.0 i k)
-    (λ v f. then_fit (long_value b x env) (λ w. up_from v (through v w)) (long_fits b x env h.1 i k) (λ w g. up_fits v (through v w) (through_fits v w f g)))
+    then_fit (long_value a x env) (λ v. on (long_value b x env) (λ w. up_from v (through v w)))
+    (long_fits a x env h.0 i k)
+    (λ v f. then_fit (long_value b x env) (λ w. up_from v (through v w)) (long_fits b x env h.1 i k)
+    (λ w g. up_fits v (through v w) (through_fits v w f g)))
 inner_fits (values es) x env h i k = each_fit es x env h i k

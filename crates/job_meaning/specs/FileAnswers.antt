@@ -75,11 +75,14 @@ abbrev pub unless_unusable : Option ℕ → Answer → Answer
 unless_unusable None a = a
 unless_unusable (Some place) a = answer.Unusable place
 
--- the answer of a job that names these jobs: unusable because of the first one whose answer can't be used, or the answer
+-- the answer of a job that names these jobs: unusable because of the first one whose answer can't be used, or the
+-- answer
 -- of its walk, with their numbers and arrays
 abbrev pub answer_with : List EarlierJob → AbstractJob → Answer
 answer_with named job =
-    unless_unusable (first_unusable named) (answer_of_job (record { earlier = numbers_of named; table = job.table }) (record job { sources = all_put_in named job.sources }))
+    unless_unusable (first_unusable named)
+    (answer_of_job (record { earlier = numbers_of named; table = job.table })
+    (record job { sources = all_put_in named job.sources }))
 
 -- the answer of a job after the jobs before it
 abbrev pub answer_after : List NamedAnswer → AbstractJob → Answer
@@ -88,7 +91,8 @@ answer_after before job = answer_with (jobs_found before (names_in_job job)) job
 -- the answers of jobs in file order, after the answers of the jobs before them
 abbrev pub answers_after : List NamedAnswer → List AbstractJob → List Answer
 answers_after before [] = []
-answers_after before (job ∷ jobs) = answer_after before job ∷ answers_after (before ++ record { name = job.name; answer = answer_after before job } ∷ []) jobs
+answers_after before (job ∷ jobs) = answer_after before job
+    ∷ answers_after (before ++ record { name = job.name; answer = answer_after before job } ∷ []) jobs
 
 -- the answers of the jobs of a file, in file order
 abbrev pub meaning_of : List AbstractJob → List Answer

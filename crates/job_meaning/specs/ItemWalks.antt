@@ -1,6 +1,7 @@
 -- Design: the walk of one thread: each item goes through all stages before the next one, and no item is asked for after
 -- a slice has ended.
-use Rattle.std.specs.Prelude.{ℕ, suc, ◌-◌, ◌==◌, ◌||◌, nat_lt, Bool, false, is_some, if◌then◌else◌, List, [], ◌∷◌, ◌++◌, length, Option, None, Result}
+use Rattle.std.specs.Prelude.{ℕ, suc, ◌-◌, ◌==◌, ◌||◌, nat_lt, Bool, false, is_some, if◌then◌else◌, List, [], ◌∷◌, ◌++◌}
+use Rattle.std.specs.Prelude.{length, Option, None, Result}
 use Rattle.std.specs.Option.{option_or}
 use Rattle.lambda_values.specs.Earlier.{Numbers}
 use Rattle.lambda_values.specs.declared.item.Item.{Item}
@@ -79,4 +80,5 @@ abbrev pub decided_in : Find → ℕ → ℕ → List AbstractJobStage → Numbe
 decided_in d m n gs env [] e = decision_of d m env (after_stages n gs env (trace [] e))
 decided_in d m n gs env (x ∷ xs) e =
     if is_over gs then None
-    else option_or (decision_of d m env (after_stages n gs env (alone x))) (decided_in d m n (stages_after n gs env (alone x)) env xs e)
+    else option_or (decision_of d m env (after_stages n gs env (alone x)))
+    (decided_in d m n (stages_after n gs env (alone x)) env xs e)

@@ -1,11 +1,14 @@
 -- Design: jobs whose numbers have 64 bits, and their answers.
-use Rattle.std.specs.Prelude.{◌≢◌, ℕ, suc, ◌<◌, ◌^◌, ℤ, pos, negsuc, List, [], ◌∷◌, length, slice_index_or, Option, None, Some}
+use Rattle.std.specs.Prelude.{◌≢◌, ℕ, suc, ◌<◌, ◌^◌, ℤ, pos, negsuc, List, [], ◌∷◌, length, slice_index_or, Option}
+use Rattle.std.specs.Prelude.{None, Some}
 use Rattle.tables.specs.Table.{NamedColumn}
 use Rattle.lambda_values.specs.Streams.{Inner, range as up_to, range_closed as up_through, values as each_of}
 use Rattle.lambda_values.specs.Term.{Long, number, parameter, reference, cell, row, unary, binary, choose}
 use Rattle.trace.specs.Stages.{AbstractStage, map, filter, flat_map}
 use Rattle.trace.specs.declared.item.Fault.{Fault}
-use Rattle.job_language.specs.Jobs.{AbstractPlainSource, range, range_closed, values, result, AbstractJobStage, item, slice, prefix, sorted, distinct, AbstractTerminal, sum, count, min, max, to_array, reduce, reduce_from, find, exact_sum, AbstractJob}
+use Rattle.job_language.specs.Jobs.{AbstractPlainSource, range, range_closed, values, result, AbstractJobStage, item}
+use Rattle.job_language.specs.Jobs.{slice, prefix, sorted, distinct, AbstractTerminal, sum, count, min, max, to_array}
+use Rattle.job_language.specs.Jobs.{reduce, reduce_from, find, exact_sum, AbstractJob}
 use Rattle.job_meaning.specs.declared.answer.Answer.{Answer}
 use Rattle.job_meaning.specs.declared.answer.Answer.TheVariants as answer
 

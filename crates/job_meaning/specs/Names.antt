@@ -5,7 +5,8 @@ use Rattle.lambda_values.specs.References.{long_names, truth_names, inner_names}
 use Rattle.trace.specs.Stages.{AbstractStage, map, filter, flat_map}
 use Rattle.slice_ops.specs.Slices.{AbstractSlice, limit, skip, take_while, drop_while}
 use Rattle.find_ops.specs.Finds.{Find, first, any_match, all_match, none_match}
-use Rattle.job_language.specs.Jobs.{AbstractPlainSource, range, range_closed, values, result, AbstractJobStage, item, slice, prefix, sorted, distinct, AbstractTerminal, find, AbstractJob}
+use Rattle.job_language.specs.Jobs.{AbstractPlainSource, range, range_closed, values, result, AbstractJobStage, item}
+use Rattle.job_language.specs.Jobs.{slice, prefix, sorted, distinct, AbstractTerminal, find, AbstractJob}
 
 -- helper: the names that stand in a stage that looks at one item at a time, in a stage that looks at a whole walk, in a
 -- find

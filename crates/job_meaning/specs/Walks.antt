@@ -1,5 +1,6 @@
 -- Meaning: the walk of a job, the answer that its terminal gives, and what that is to jobs that name it.
-use Rattle.std.specs.Prelude.{ℕ, suc, ℤ, pos, ◌+ℤ◌, Bool, true, false, List, [], ◌∷◌, ◌++◌, length, map as each_of, Option, Some, None, Result, Ok, Err}
+use Rattle.std.specs.Prelude.{ℕ, suc, ℤ, pos, ◌+ℤ◌, Bool, true, false, List, [], ◌∷◌, ◌++◌, length, map as each_of}
+use Rattle.std.specs.Prelude.{Option, Some, None, Result, Ok, Err}
 use Rattle.lambda_values.specs.Earlier.{Numbers}
 use Rattle.lambda_values.specs.Streams.{counted, distance}
 use Rattle.lambda_values.specs.Wrap.{wrap}
@@ -21,7 +22,9 @@ use Rattle.sort_ops.specs.Orders.{sorted_walk}
 use Rattle.find_ops.specs.Finds.{first, any_match, all_match, none_match, find_answer}
 use Rattle.find_ops.specs.declared.find_part.Found.{Found}
 use Rattle.find_ops.specs.declared.find_part.Found.TheVariants as found
-use Rattle.job_language.specs.Jobs.{AbstractPlainSource, range, range_closed, values, result, AbstractJobStage, item, slice, prefix, sorted, distinct, AbstractTerminal, sum, count, min, max, to_array, reduce, reduce_from, find, exact_sum, AbstractJob}
+use Rattle.job_language.specs.Jobs.{AbstractPlainSource, range, range_closed, values, result, AbstractJobStage, item}
+use Rattle.job_language.specs.Jobs.{slice, prefix, sorted, distinct, AbstractTerminal, sum, count, min, max, to_array}
+use Rattle.job_language.specs.Jobs.{reduce, reduce_from, find, exact_sum, AbstractJob}
 use Rattle.job_meaning.specs.declared.answer.Answer.{Answer}
 use Rattle.job_meaning.specs.declared.answer.Answer.TheVariants as answer
 
@@ -86,7 +89,8 @@ answer_of n env (reduce_from a f) t = unless_fault t.ending (answer.Number (fold
 answer_of n env (find d) t = found_answer (find_answer d n env t)
 answer_of n env exact_sum t = exact_answer (exactly_summed n t)
 
--- the answer that a terminal makes of the number after a fault: `sum`, `count` and `reduce` from a number make a number, `min`, `max`,
+-- the answer that a terminal makes of the number after a fault: `sum`, `count` and `reduce` from a number make a
+-- number, `min`, `max`,
 -- `reduce` and `findFirst` an optional; an array and a match make none, and the reader refuses `onFault` after them
 abbrev pub number_as : AbstractTerminal → ℤ → Option Answer
 number_as sum z = Some (answer.Number z)

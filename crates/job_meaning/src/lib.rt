@@ -9,6 +9,9 @@
 //! What it promises to its users: what an answer is to a job that names it (`is_usable`, `number`, `array`), and that
 //! no call of `Values` changes a value or its place.
 //! Not promised: that anything is run. `job_plan` does that, a piece at a time.
+//!
+//! Tested: `leaves.rt`, `reports.rt`, `shown.rt` of `test_engine`; `values.rt` of `test_low`; runs of the programs in
+//! `tests`.
 #![tactic(auto)]
 
 mod answer;

@@ -1,5 +1,7 @@
--- Meaning: the keys of columns in the jobs of a file: what stands between double quotes, and the decimal places after it.
-use Rattle.std.specs.Prelude.{ℕ, ◌==◌, ◌++◌, List, [], ◌∷◌, take_while, Option, Some, None, Result, Ok, Err, if◌then◌else◌}
+-- Meaning: the keys of columns in the jobs of a file: what stands between double quotes, and the decimal places after
+-- it.
+use Rattle.std.specs.Prelude.{ℕ, ◌==◌, ◌++◌, List, [], ◌∷◌, take_while, Option, Some, None, Result, Ok, Err}
+use Rattle.std.specs.Prelude.{if◌then◌else◌}
 use Rattle.std.specs.Char.{is_ascii_digit}
 use Rattle.std.specs.Option.{unwrap_or}
 use Rattle.stream_tokens.specs.Bytes.{is_blank}

@@ -8,6 +8,8 @@
 //! between double quotes, in order.
 //! Begin with `specs/ColumnKeys.antt` and `specs/JobNames.antt`, then `names.rt`.
 //! Not promised: that a text is a job, and that a name is the name of a column.
+//!
+//! Tested: `calls.rt`, `decimals.rt` of `test_low`; runs of the programs in `tests`.
 #![tactic(auto)]
 
 mod keys;

@@ -3,7 +3,7 @@ ghost use Rattle.std.specs.Char.{is_ascii_digit};
 ghost use Rattle.std.specs.Prelude.{◌≡◌, ◌≢◌, ◌++◌, Err, IfErr, IfOk, OnOk, None, map, take_while};
 ghost use Rattle.job_names.specs.JobNames.{after_blanks, names_after, names_of_texts, places_after};
 
-use super::keys::{key_of, places_of};
+use crate::keys::{key_of, places_of};
 use std::alloc::{AllocError, Global};
 use stream_tokens::{JobTexts, TextFault};
 

@@ -1,5 +1,6 @@
 -- A sink that may leave a walk.
-use Rattle.std.proofs.Common.{◌≡◌, ℕ, ◌≤◌, Bool, true, false, List, ◌++◌, take, Result, Ok, Err, OnErr, refl, true≢false, sym, subst}
+use Rattle.std.proofs.Common.{◌≡◌, ℕ, ◌≤◌, Bool, true, false, List, ◌++◌, take, Result, Ok, Err, OnErr, refl}
+use Rattle.std.proofs.Common.{true≢false, sym, subst}
 use Rattle.std.specs.declared.alloc.AllocError.{AllocError}
 use Rattle.lambda_values.specs.declared.item.Item.{Item}
 use Rattle.trace.specs.declared.feeding.Fed.{Fed}
@@ -38,11 +39,13 @@ module _ (decides : ℕ → Type 0) (from : ℕ) (P : Type 0) where
   unless_left true h p = h refl
 
 -- a place that was seen decides also as it was named first
-pub as_named : {W : Type 0} (places : W → ℕ → Type 0) (decides : ℕ → Type 0) (from start : ℕ) (w : W) → start ≡ from → ((c : ℕ) → places w c → decides c) → IsDecided (places w) start → IsDecided decides from
+pub as_named : {W : Type 0} (places : W → ℕ → Type 0) (decides : ℕ → Type 0) (from start : ℕ) (w : W) → start ≡ from
+    → ((c : ℕ) → places w c → decides c) → IsDecided (places w) start → IsDecided decides from
 as_named places decides from start w is to seen = (seen.0, to seen.0 seen.1, subst (λ (n : ℕ). seen.0 ≤ n) is seen.2)
 
 -- some items were taken, whatever became of the others
-pub some_taken : {S : Type 0} (h : S → List Item → Type 0) (xs : List Item) (t : Trace) (r : Result Fed AllocError) (s : S) → IsFed h xs t r s → (ys : List Item) × h s ys
+pub some_taken : {S : Type 0} (h : S → List Item → Type 0) (xs : List Item) (t : Trace) (r : Result Fed AllocError)
+    (s : S) → IsFed h xs t r s → (ys : List Item) × h s ys
 some_taken h xs t (Ok fed.More) s p = (xs ++ t.items, p.0)
 some_taken h xs t (Ok (fed.Fault f)) s p = (xs ++ t.items, p.0)
 some_taken h xs t (Ok fed.Enough) s p = (xs ++ take p.0 t.items, p.2)

@@ -1,5 +1,6 @@
 -- The names of earlier jobs, and their places.
-use Rattle.std.proofs.Common.{◌≡◌, ℕ, suc, ◌+◌, Bool, true, false, not, List, [], ◌∷◌, ◌++◌, length, Option, Some, None, refl, ap, ◌∙◌, arith}
+use Rattle.std.proofs.Common.{◌≡◌, ℕ, suc, ◌+◌, Bool, true, false, not, List, [], ◌∷◌, ◌++◌, length, Option, Some, None}
+use Rattle.std.proofs.Common.{refl, ap, ◌∙◌, arith}
 use Rattle.std.specs.Prelude.{if◌then◌else◌, nat_lt, nat_eq, position}
 use Rattle.std.specs.List.{position_or_len}
 use Rattle.std.specs.Cmp.Lexicographic.{pointwise}
@@ -15,13 +16,16 @@ later : (b : Bool) (n m : ℕ) → m ≡ suc n → (if b then Some m else None) 
 later true n m e = ap (λ (k : ℕ). Some k) e
 later false n m e = refl
 
-found_there : (b : Bool) (n l : ℕ) → there (if not b then 1 + n else 0) (suc l) ≡ (if b then Some 0 else one_later (there n l))
-found_there true n l = ap (λ (b : Bool). if b then Some 0 else None) (let e : nat_lt 0 (suc l) ≡ true = grind arith in e)
+found_there : (b : Bool) (n l : ℕ) → there (if not b then 1 + n else 0) (suc l)
+    ≡ (if b then Some 0 else one_later (there n l))
+found_there true n l = ap (λ (b : Bool). if b then Some 0 else None)
+    (let e : nat_lt 0 (suc l) ≡ true = grind arith in e)
 found_there false n l =
     ap (λ (b : Bool). if b then Some (1 + n) else None) (let e : nat_lt (1 + n) (suc l) ≡ nat_lt n l = grind arith in e)
     ∙ later (nat_lt n l) n (1 + n) (let e : 1 + n ≡ suc n = omega arith in e)
 
-pub placed_at : (js : List JobPlan) (name : List ℕ) → position (λ (j : JobPlan). pointwise nat_eq j.name name) js ≡ place_of (plan_names js) name
+pub placed_at : (js : List JobPlan) (name : List ℕ)
+    → position (λ (j : JobPlan). pointwise nat_eq j.name name) js ≡ place_of (plan_names js) name
 placed_at [] name = refl
 placed_at (j ∷ js) name =
     let same = pointwise nat_eq j.name name in

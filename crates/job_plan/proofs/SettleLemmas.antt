@@ -13,7 +13,8 @@ use Rattle.find_ops.proofs.DecisionLemmas.{decision_joined}
 use Rattle.job_plan.specs.Parts.{is_fault}
 
 -- a part of an outcome settles it
-pub settles_on : {A B : Type 0} (f : A → B) (close : Trace → A) (t : Trace) → IsSettled close t → IsSettled (λ u. f (close u)) t
+pub settles_on : {A B : Type 0} (f : A → B) (close : Trace → A) (t : Trace) → IsSettled close t
+    → IsSettled (λ u. f (close u)) t
 settles_on f close t h a b c = ap f (h a b c)
 
 pub the_fault : (e : End) → is_fault e ≡ true → (f : Fault) × (e ≡ end.Fault f)
@@ -41,4 +42,5 @@ module _ (d : Find) (n : ℕ) (env : Numbers) where
       decided = ap is_some (decision_joined d n env a t) ∙ some_or (decision_of d n env a) (decision_of d n env t) h
 
       same : (b : Trace) → decision_of d n env (append (append a t) b) ≡ decision_of d n env (append a t)
-      same b = decision_joined d n env (append a t) b ∙ kept_some (decision_of d n env (append a t)) (decision_of d n env b) decided
+      same b = decision_joined d n env (append a t) b
+          ∙ kept_some (decision_of d n env (append a t)) (decision_of d n env b) decided

@@ -1,5 +1,6 @@
 -- One stretch of a walk after the others.
-use Rattle.std.proofs.Common.{◌≡◌, ℕ, ◌≤◌, ◌-◌, List, [], take, drop, Option, Some, None, IfSome, Ok, sym, ap, ◌∙◌, arith}
+use Rattle.std.proofs.Common.{◌≡◌, ℕ, ◌≤◌, ◌-◌, List, [], take, drop, Option, Some, None, IfSome, Ok, sym, ap, ◌∙◌}
+use Rattle.std.proofs.Common.{arith}
 use Rattle.lambda_values.specs.declared.item.Item.{Item}
 use Rattle.trace.specs.declared.item.End.TheVariants as end
 use Rattle.trace.specs.declared.feeding.Fed.{Fed}
@@ -28,12 +29,16 @@ module _ {S : Type 0} (h : S → List Item → Type 0) (line : Pipeline) (items 
       none = let z : from - from ≡ 0 = omega arith in ap (λ n. take n (drop from items)) z ∙ take_none (drop from items)
 
   -- one more
-  pub more_walked : (p : ℕ) (to : Option ℕ) (r : Fed) (s t u : S) → from ≤ p → IsNotAfter p to → IsWalked h walk (elements from (Some p) items) s fed.More t → IsWalked h walk (elements p to items) t r u
+  pub more_walked : (p : ℕ) (to : Option ℕ) (r : Fed) (s t u : S) → from ≤ p → IsNotAfter p to
+      → IsWalked h walk (elements from (Some p) items) s fed.More t → IsWalked h walk (elements p to items) t r u
       → IsWalked h walk (elements from to items) s r u
   more_walked p to r s t u low high before next xs took =
-      fed_both h line xs (elements from (Some p) items) (elements p to items) (elements from to items) (Ok r) t u (sym (elements_join from p to items low high)) (before xs took) next
+      fed_both h line xs (elements from (Some p) items) (elements p to items) (elements from to items) (Ok r) t u
+      (sym (elements_join from p to items low high)) (before xs took) next
 
   -- the walk ended before the end of the piece
-  pub ended_walked : (p : ℕ) (to : Option ℕ) (r : Fed) (s u : S) → from ≤ p → IsNotAfter p to → (r ≡ fed.More → ⊥) → IsWalked h walk (elements from (Some p) items) s r u → IsWalked h walk (elements from to items) s r u
+  pub ended_walked : (p : ℕ) (to : Option ℕ) (r : Fed) (s u : S) → from ≤ p → IsNotAfter p to → (r ≡ fed.More → ⊥)
+      → IsWalked h walk (elements from (Some p) items) s r u → IsWalked h walk (elements from to items) s r u
   ended_walked p to r s u low high other before xs took =
-      fed_stopped h line xs (elements from (Some p) items) (elements p to items) (elements from to items) (Ok r) u (sym (elements_join from p to items low high)) (λ e. other (let k : r ≡ fed.More = cc in k)) (before xs took)
+      fed_stopped h line xs (elements from (Some p) items) (elements p to items) (elements from to items) (Ok r) u
+      (sym (elements_join from p to items low high)) (λ e. other (let k : r ≡ fed.More = cc in k)) (before xs took)

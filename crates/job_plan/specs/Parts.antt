@@ -1,5 +1,6 @@
 -- Condition: what the parts and sources of the program mean.
-use Rattle.std.specs.Prelude.{◌≡◌, ◌||◌, ℕ, zero, suc, ℤ, Bool, true, false, if◌then◌else◌, List, Option, Some, is_some, None}
+use Rattle.std.specs.Prelude.{◌≡◌, ◌||◌, ℕ, zero, suc, ℤ, Bool, true, false, if◌then◌else◌, List, Option, Some, is_some}
+use Rattle.std.specs.Prelude.{None}
 use Rattle.lambda_values.specs.Earlier.{Numbers}
 use Rattle.lambda_values.specs.declared.item.Item.{Item}
 use Rattle.trace.specs.declared.item.End.{End}
@@ -9,7 +10,8 @@ use Rattle.trace.specs.declared.sink.Flow.TheVariants as flow
 use Rattle.trace.specs.Trace.{Trace, trace, append}
 use Rattle.reduce_ops.specs.declared.op.Op.{Op}
 use Rattle.reduce_ops.specs.Parts.{StandsFor as FoldStands}
-use Rattle.reduce_ops.specs.Reaches.{StandsFor as SumStands, is_running as is_running_sum, is_settled as sum_is_settled, may_search as sum_may_search}
+use Rattle.reduce_ops.specs.Reaches.{StandsFor as SumStands, is_running as is_running_sum, is_settled as sum_is_settled}
+use Rattle.reduce_ops.specs.Reaches.{may_search as sum_may_search}
 use Rattle.sort_ops.specs.Parts.{AreFirsts, least_of}
 use Rattle.sort_ops.specs.Runs.{with_places}
 use Rattle.find_ops.specs.Parts.{StandsFor as FindStands}
@@ -22,7 +24,8 @@ use Rattle.job_plan.specs.declared.part.Part.{Part}
 use Rattle.job_plan.specs.declared.part.Part.TheVariants as part
 use Rattle.job_plan.specs.declared.source.Source.{Source}
 use Rattle.prefix_walks.specs.Batches.{counted_as}
-use Rattle.job_routes.specs.Legs.{AbstractEnd, folding, finding, collecting, exactly, scanning, sorting, keeping_firsts, AbstractSegment, walk_of, last_stage, windowed}
+use Rattle.job_routes.specs.Legs.{AbstractEnd, folding, finding, collecting, exactly, scanning, sorting, keeping_firsts}
+use Rattle.job_routes.specs.Legs.{AbstractSegment, walk_of, last_stage, windowed}
 use Rattle.trace.specs.declared.item.Fault.{Fault}
 
 -- the walk over a source of the program
@@ -56,7 +59,8 @@ may_search p = false
 
 -- a part goes on from another one with this walk
 abbrev pub GoesOnFrom : AbstractEnd → ℕ → Numbers → Part → Part → Trace → Type 0
-GoesOnFrom e n env begun p u = ((t : Trace) → EndsFor e n env begun t → EndsFor e n env p (append t u)) × (may_search p ≡ may_search begun)
+GoesOnFrom e n env begun p u = ((t : Trace) → EndsFor e n env begun t → EndsFor e n env p (append t u))
+    × (may_search p ≡ may_search begun)
 
 -- a part goes on from another one with these items
 abbrev pub HasTaken : AbstractEnd → ℕ → Numbers → Part → Part → List Item → Type 0

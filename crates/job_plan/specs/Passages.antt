@@ -40,7 +40,8 @@ passage_flow passage.Refused f = flow.More
 abbrev pub IsAfter : Fed → End → AbstractSlice → Passage → Type 0
 IsAfter fed.More e rest passage.Open = e ≡ end.Done
 IsAfter fed.More e rest passage.Enough = ⊥
-IsAfter fed.More e rest (passage.Ended k) = (k ≡ e) × (e ≡ end.Done → (n : ℕ) (env : Numbers) (later : Trace) → sliced rest n env later ≡ nothing)
+IsAfter fed.More e rest (passage.Ended k) =
+    (k ≡ e) × (e ≡ end.Done → (n : ℕ) (env : Numbers) (later : Trace) → sliced rest n env later ≡ nothing)
 IsAfter fed.More e rest passage.Refused = ⊥
 IsAfter (fed.Fault f) e rest p = p ≡ passage.Ended (end.Fault f)
 IsAfter fed.Enough e rest p = p ≡ passage.Enough
@@ -63,14 +64,18 @@ fed_by passage.Enough = fed.Enough
 fed_by (passage.Ended e) = fed.Enough
 fed_by passage.Refused = fed.Enough
 
-module _ {S : Type 0} (has_taken : S → List Item → Type 0) (wants : S → Flow) (begun : AbstractSlice) (n : ℕ) (next : AbstractSegment) (env : Numbers) where
+module _ {S : Type 0} (has_taken : S → List Item → Type 0) (wants : S → Flow) (begun : AbstractSlice) (n : ℕ)
+    (next : AbstractSegment) (env : Numbers) where
   -- what goes into the next sink, if these items went into the slice, and then this walk
   abbrev pub onward : List Item → Trace → Trace
   onward xs later = through_link begun n next env (append (trace xs end.Done) later)
 
   -- these items went into a slice with this rest, and the next sink has taken what became of them
   abbrev pub HasPassed : AbstractSlice → Passage → S → List Item → Type 0
-  HasPassed rest passage.Open s xs = (ys : List Item) × has_taken s ys × ((later : Trace) → onward xs later ≡ append (trace ys end.Done) (through_link rest n next env later))
-  HasPassed rest passage.Enough s xs = (ys : List Item) × has_taken s ys × (wants s ≡ flow.Enough) × ((later : Trace) → (z : Trace) × (onward xs later ≡ append (trace ys end.Done) z))
-  HasPassed rest (passage.Ended e) s xs = (ys : List Item) × has_taken s ys × ((later : Trace) → onward xs later ≡ append (trace ys end.Done) (trace [] e))
+  HasPassed rest passage.Open s xs = (ys : List Item) × has_taken s ys
+      × ((later : Trace) → onward xs later ≡ append (trace ys end.Done) (through_link rest n next env later))
+  HasPassed rest passage.Enough s xs = (ys : List Item) × has_taken s ys × (wants s ≡ flow.Enough)
+      × ((later : Trace) → (z : Trace) × (onward xs later ≡ append (trace ys end.Done) z))
+  HasPassed rest (passage.Ended e) s xs =
+      (ys : List Item) × has_taken s ys × ((later : Trace) → onward xs later ≡ append (trace ys end.Done) (trace [] e))
   HasPassed rest passage.Refused s xs = ⊤

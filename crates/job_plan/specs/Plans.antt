@@ -12,7 +12,8 @@ use Rattle.job_routes.specs.Legs.{AbstractLegs, fallback_in, leg_in, legs_answer
 use Rattle.job_plan.specs.declared.plan.JobPlan.{JobPlan}
 use Rattle.job_plan.specs.declared.plan.Named.{Named}
 
--- the route of a job: its sources; its legs; the earlier jobs that it names; and what it gives after a fault, if anything
+-- the route of a job: its sources; its legs; the earlier jobs that it names; and what it gives after a fault, if
+-- anything
 pub record AbstractPlan : Type 0 where
   pub name : List ℕ
   pub named : List Named
@@ -49,18 +50,22 @@ jobs_at before (n ∷ ns) = job_at n (slice_get before n.job) ++ jobs_at before 
 abbrev pub planned_after : List Answer → AbstractPlan → Answer
 planned_after before plan =
     let named = jobs_at before plan.named in
-    unless_unusable (first_unusable named) (planned_answer (record { earlier = numbers_of named; table = plan.table }) (record plan { sources = all_put_in named plan.sources }))
+    unless_unusable (first_unusable named)
+    (planned_answer (record { earlier = numbers_of named; table = plan.table })
+    (record plan { sources = all_put_in named plan.sources }))
 
 -- the answers of jobs in file order, after the answers of the jobs before them
 abbrev pub planned_from : List Answer → List AbstractPlan → List Answer
 planned_from before [] = []
-planned_from before (plan ∷ plans) = planned_after before plan ∷ planned_from (before ++ planned_after before plan ∷ []) plans
+planned_from before (plan ∷ plans) = planned_after before plan
+    ∷ planned_from (before ++ planned_after before plan ∷ []) plans
 
 -- the answers of the jobs of a file, in file order
 abbrev pub planned_meaning : List AbstractPlan → List Answer
 planned_meaning plans = planned_from [] plans
 
--- a route of a job, after jobs with these names: it has the job's answer, whatever the arrays and the numbers of earlier
+-- a route of a job, after jobs with these names: it has the job's answer, whatever the arrays and the numbers of
+-- earlier
 -- jobs are
 pub record IsRoute (before : List (List ℕ)) (plan : AbstractPlan) (job : AbstractJob) : Type 0 where
   pub name : plan.name ≡ job.name

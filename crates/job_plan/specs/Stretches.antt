@@ -27,5 +27,7 @@ UnlessLeft true decides from taken = IsDecided decides from
 
 -- a sink that looks at places which decide has taken these items; or it has left, since one lies at or before the
 -- start of its piece
-abbrev pub HasLooked : {S W : Type 0} → (S → List Item → Type 0) → (W → ℕ → Type 0) → (ℕ → Type 0) → ℕ → ℕ → W → Bool → S → List Item → Type 0
-HasLooked h places decides from start stop left s xs = (start ≡ from) × ((c : ℕ) → places stop c → decides c) × UnlessLeft left decides from (h s xs)
+abbrev pub HasLooked : {S W : Type 0} → (S → List Item → Type 0) → (W → ℕ → Type 0) → (ℕ → Type 0) → ℕ → ℕ → W → Bool
+    → S → List Item → Type 0
+HasLooked h places decides from start stop left s xs =
+    (start ≡ from) × ((c : ℕ) → places stop c → decides c) × UnlessLeft left decides from (h s xs)

@@ -7,6 +7,8 @@
 //! `leaf_until` takes a piece of what a leg goes over to a `Part`, two parts side by side merge, and `Part::finish`
 //! gives the next source or the answer. `walk_tree` does all of this on one thread.
 //! Not promised: that pieces are walked at the same time, or that a piece is walked no further than needed.
+//!
+//! Tested: `driven.rt`, `plans.rt`, `refusals.rt`, `shown.rt` of `test_engine`; runs of the programs in `tests`.
 #![tactic(auto)]
 
 mod array_part;

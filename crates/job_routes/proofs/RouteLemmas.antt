@@ -1,5 +1,6 @@
 -- One stage more; terminals as ends of segments; and folds that keep the first value.
-use Rattle.std.proofs.Common.{◌≡◌, ℕ, suc, ℤ, true, false, List, [], ◌∷◌, ◌++◌, length, Some, None, refl, sym, ap, ◌∙◌, arith}
+use Rattle.std.proofs.Common.{◌≡◌, ℕ, suc, ℤ, true, false, List, [], ◌∷◌, ◌++◌, length, Some, None, refl, sym, ap, ◌∙◌}
+use Rattle.std.proofs.Common.{arith}
 use Rattle.lambda_values.specs.Earlier.{Numbers}
 use Rattle.lambda_values.specs.declared.item.Item.{Item}
 use Rattle.trace.specs.declared.item.End.{End}
@@ -39,7 +40,8 @@ no_items (x ∷ xs) h = absurd (omega arith)
 -- ---- terminals
 
 -- the end of the last segment is the terminal
-pub terminal_ends : (d : AbstractTerminal) (n : ℕ) (env : Numbers) (t : Trace) → given_answer (ended (end_of d) n env t) ≡ answer_of n env d t
+pub terminal_ends : (d : AbstractTerminal) (n : ℕ) (env : Numbers) (t : Trace)
+    → given_answer (ended (end_of d) n env t) ≡ answer_of n env d t
 terminal_ends sum n env t = ap (λ z. unless_fault t.ending (answer.Number z)) (wrapped_sum t.items)
 terminal_ends count n env t = ap (λ z. unless_fault t.ending (answer.Number z)) (counted t.items)
 terminal_ends d n env t = refl
@@ -50,14 +52,20 @@ one_value : (a : ℤ) (xs : List Item) → fold_from (value_of op.First) a xs �
 one_value a [] = refl
 one_value a (x ∷ xs) = one_value a xs
 
-pub first_answer : (n : ℕ) (env : Numbers) (xs : List Item) (e : End) → IsClean (trace xs e) → ended (finding (find_of terminal.First)) n env (trace xs e) ≡ ended (folding op.First None false) n env (trace xs e)
+pub first_answer : (n : ℕ) (env : Numbers) (xs : List Item) (e : End) → IsClean (trace xs e)
+    → ended (finding (find_of terminal.First)) n env (trace xs e)
+    ≡ ended (folding op.First None false) n env (trace xs e)
 first_answer n env [] end.Done h = refl
 first_answer n env [] (end.Fault f) h = refl
-first_answer n env (x ∷ xs) end.Done h = ap (λ (v : ℤ). outcome.Answer (answer.Optional (Some v))) (sym (one_value x.value xs))
+first_answer n env (x ∷ xs) end.Done h =
+    ap (λ (v : ℤ). outcome.Answer (answer.Optional (Some v))) (sym (one_value x.value xs))
 first_answer n env (x ∷ xs) (end.Fault f) h = absurd (let z : x ∷ xs ≡ [] = h f refl in cc)
 
 -- stages that have no fault leave a walk without an item before a fault
-pub pipe_clean : (m : ℕ) (gs : List AbstractStage) → AreFaultless true gs → (env : Numbers) (t : Trace) → IsClean t → IsClean (pipe m gs env t)
+pub pipe_clean : (m : ℕ) (gs : List AbstractStage) → AreFaultless true gs → (env : Numbers) (t : Trace) → IsClean t
+    → IsClean (pipe m gs env t)
 pipe_clean m gs calm env t clean = λ f e.
-    let none : t.items ≡ [] = clean f (ap (λ (w : Trace). w.ending) (sym ((calm env).0 m env refl t.items t.ending)) ∙ e) in
-    ap (λ (xs : List Item). (pipe m gs env (trace xs t.ending)).items) none ∙ ap (λ (w : Trace). w.items) (pipe_ended m gs env t.ending)
+    let none : t.items ≡ [] = clean f (ap (λ (w : Trace). w.ending) (sym ((calm env).0 m env refl t.items t.ending))
+    ∙ e) in
+    ap (λ (xs : List Item). (pipe m gs env (trace xs t.ending)).items) none
+    ∙ ap (λ (w : Trace). w.items) (pipe_ended m gs env t.ending)

@@ -1,5 +1,7 @@
 -- Positions of walks without an item before a fault, and the slices that select them.
-use Rattle.std.proofs.Common.{◌≡◌, ℕ, zero, suc, ◌+◌, ◌-◌, ◌<◌, ◌^◌, ℤ, nat_lt, if◌then◌else◌, Bool, true, false, List, [], ◌∷◌, ◌++◌, length, take, drop, slice_get, Option, Some, None, refl, sym, ap, subst, ◌∙◌, arith}
+use Rattle.std.proofs.Common.{◌≡◌, ℕ, zero, suc, ◌+◌, ◌-◌, ◌<◌, ◌^◌, ℤ, nat_lt, if◌then◌else◌, Bool, true, false, List}
+use Rattle.std.proofs.Common.{[], ◌∷◌, ◌++◌, length, take, drop, slice_get, Option, Some, None, refl, sym, ap, subst}
+use Rattle.std.proofs.Common.{◌∙◌, arith}
 use Rattle.std.proofs.lemmas.Bool.{ltb-true, lt-ltb}
 use Rattle.std.proofs.lemmas.List.{take_all, take_more}
 use Rattle.std.proofs.lemmas.Option.{slice_get_within, get_or_from_slice_get}
@@ -18,7 +20,9 @@ use Rattle.sort_ops.specs.Parts.{done_after}
 use Rattle.job_language.specs.Jobs.{AbstractPlainSource}
 use Rattle.prefix_walks.specs.Pieces.{elements}
 use Rattle.job_routes.specs.Building.{IsClean}
-use Rattle.job_routes.specs.Legs.{AbstractEnd, collecting, end_in, ended, exactly, finding, folding, given_walk, keeping_firsts, last_stage, leg_in, leg_walk, legs_in, linked, links_in, scanned, scanning, segment_in, sorting, walk_of, windowed}
+use Rattle.job_routes.specs.Legs.{AbstractEnd, collecting, end_in, ended, exactly, finding, folding, given_walk}
+use Rattle.job_routes.specs.Legs.{keeping_firsts, last_stage, leg_in, leg_walk, legs_in, linked, links_in, scanned}
+use Rattle.job_routes.specs.Legs.{scanning, segment_in, sorting, walk_of, windowed}
 use Rattle.job_meaning.specs.Walks.{source_walk, values_of}
 use Rattle.job_routes.specs.declared.leg.Leg.{Leg}
 use Rattle.job_routes.proofs.LinkLemmas.{last_scanned}
@@ -67,25 +71,31 @@ clean_done (Some n) t h = by (nat_lt (length t.items) n)
     by false = λ g e. absurd (let z : end.Done ≡ end.Fault g = e in cc)
 
 -- only `distinct` gives items before a fault
-clean_given : (e : AbstractEnd) (n : ℕ) (env : Numbers) (t : Trace) → ((m : Option ℕ) → e ≡ keeping_firsts m → ⊥) → IsClean (given_walk (ended e n env t))
+clean_given : (e : AbstractEnd) (n : ℕ) (env : Numbers) (t : Trace) → ((m : Option ℕ) → e ≡ keeping_firsts m → ⊥)
+    → IsClean (given_walk (ended e n env t))
 clean_given (folding f a counts) n env t other = λ g h. refl
 clean_given (finding d) n env t other = λ g h. refl
 clean_given (scanning f r) n env t other = clean_prefixed (value_of f) r n t
-clean_given (sorting m places) n env t other = clean_done m (sorted_walk (with_places places t)) (clean_sorted (with_places places t))
+clean_given (sorting m places) n env t other =
+    clean_done m (sorted_walk (with_places places t)) (clean_sorted (with_places places t))
 clean_given (keeping_firsts m) n env t other = absurd (other m refl)
 clean_given exactly n env t other = λ g h. refl
 clean_given collecting n env t other = λ g h. refl
 
 -- what the last of several legs gives
-pub clean_last : (ls : List Leg) (l : Leg) (env : Numbers) (t : Trace) → Some l ≡ slice_get ls (length ls - 1) → ((m : Option ℕ) → end_in l.last.end ≡ keeping_firsts m → ⊥) → IsClean (scanned (legs_in ls) env t)
+pub clean_last : (ls : List Leg) (l : Leg) (env : Numbers) (t : Trace) → Some l ≡ slice_get ls (length ls - 1)
+    → ((m : Option ℕ) → end_in l.last.end ≡ keeping_firsts m → ⊥) → IsClean (scanned (legs_in ls) env t)
 clean_last ls l env t is other =
     let i = length ls - 1 in
     let within = slice_get_within ls i l (sym is) in
-    let more : take (i + 1) ls ≡ take i ls ++ l ∷ [] = take_more ls i l within ∙ ap (λ (m : Leg). take i ls ++ m ∷ []) (get_or_from_slice_get ls i l l (sym is)) in
+    let more : take (i + 1) ls ≡ take i ls ++ l ∷ [] =
+    take_more ls i l within ∙ ap (λ (m : Leg). take i ls ++ m ∷ []) (get_or_from_slice_get ls i l l (sym is)) in
     let all : ls ≡ take i ls ++ l ∷ [] = sym (take_all (i + 1) ls (omega (arith, within))) ∙ more in
     let s = segment_in l.last in
-    let u : Trace = walk_of s env (linked (links_in l.links.items) env (leg_walk (leg_in l) (scanned (legs_in (take i ls)) env t))) in
-    subst (λ (w : Trace). IsClean w) (sym (last_scanned ls (take i ls) l env t all)) (clean_given (end_in l.last.end) (last_stage s) env u other)
+    let u : Trace = walk_of s env (linked (links_in l.links.items) env
+    (leg_walk (leg_in l) (scanned (legs_in (take i ls)) env t))) in
+    subst (λ (w : Trace). IsClean w) (sym (last_scanned ls (take i ls) l env t all))
+    (clean_given (end_in l.last.end) (last_stage s) env u other)
 
 -- ---- slices of positions
 
@@ -93,20 +103,29 @@ abbrev no_items : List Item
 no_items = []
 
 -- `limit` of at least one item leaves the end of such a walk as it is
-limited_clean : (n : ℕ) (ys : List Item) (e : End) → IsClean (trace ys e) → limited (suc n) (trace ys e) ≡ trace (take (suc n) ys) e
+limited_clean : (n : ℕ) (ys : List Item) (e : End) → IsClean (trace ys e)
+    → limited (suc n) (trace ys e) ≡ trace (take (suc n) ys) e
 limited_clean n ys end.Done h = whole (nat_lt (length ys) (suc n)) refl
   where
-    whole : (b : Bool) → nat_lt (length ys) (suc n) ≡ b → (if b then trace ys end.Done else trace (take (suc n) ys) end.Done) ≡ trace (take (suc n) ys) end.Done
-    whole true e = let l = ltb-true (length ys) (suc n) e in ap (λ zs. trace zs end.Done) (sym (take_all (suc n) ys (omega (arith, l))))
+    whole : (b : Bool) → nat_lt (length ys) (suc n) ≡ b
+        → (if b then trace ys end.Done else trace (take (suc n) ys) end.Done) ≡ trace (take (suc n) ys) end.Done
+    whole true e = let l = ltb-true (length ys) (suc n) e in
+        ap (λ zs. trace zs end.Done) (sym (take_all (suc n) ys (omega (arith, l))))
     whole false e = refl
 limited_clean n ys (end.Fault g) h =
-    subst (λ (zs : List Item). limited (suc n) (trace zs (end.Fault g)) ≡ trace (take (suc n) zs) (end.Fault g)) (sym (h g refl))
-    (ap (λ (b : Bool). if b then trace no_items (end.Fault g) else trace (take (suc n) no_items) end.Done) (lt-ltb 0 (suc n) (omega arith)))
+    subst (λ (zs : List Item). limited (suc n) (trace zs (end.Fault g)) ≡ trace (take (suc n) zs) (end.Fault g))
+    (sym (h g refl))
+    (ap (λ (b : Bool). if b then trace no_items (end.Fault g) else trace (take (suc n) no_items) end.Done)
+    (lt-ltb 0 (suc n) (omega arith)))
 
 -- what a slice makes of a window
-pub skips : (f : ℕ) (o : Option ℕ) (n g : ℕ) (q : Option ℕ) (t : Trace) → ((xs : List Item) → elements g q xs ≡ drop n (elements f o xs)) → skipped n (windowed f o t) ≡ windowed g q t
+pub skips : (f : ℕ) (o : Option ℕ) (n g : ℕ) (q : Option ℕ) (t : Trace)
+    → ((xs : List Item) → elements g q xs ≡ drop n (elements f o xs)) → skipped n (windowed f o t) ≡ windowed g q t
 skips f o n g q t h = ap (λ xs. trace xs t.ending) (sym (h t.items))
 
-pub limits : (f : ℕ) (o : Option ℕ) (n g : ℕ) (q : Option ℕ) (t : Trace) → 0 < n → IsClean t → ((xs : List Item) → elements g q xs ≡ take n (elements f o xs)) → limited n (windowed f o t) ≡ windowed g q t
+pub limits : (f : ℕ) (o : Option ℕ) (n g : ℕ) (q : Option ℕ) (t : Trace) → 0 < n → IsClean t
+    → ((xs : List Item) → elements g q xs ≡ take n (elements f o xs)) → limited n (windowed f o t) ≡ windowed g q t
 limits f o zero g q t some_there clean h = absurd (omega arith)
-limits f o (suc n) g q t some_there clean h = limited_clean n (elements f o t.items) t.ending (clean_window f o t clean) ∙ ap (λ xs. trace xs t.ending) (sym (h t.items))
+limits f o (suc n) g q t some_there clean h =
+    limited_clean n (elements f o t.items) t.ending (clean_window f o t clean)
+    ∙ ap (λ xs. trace xs t.ending) (sym (h t.items))

@@ -19,7 +19,8 @@ one_or (Err f) = trace [] (end.Fault f)
 
 -- stages make one item, or a fault, of each item
 abbrev pub AreMaps : List AbstractStage → Type 0
-AreMaps gs = (m : ℕ) (env : Numbers) (x : Item) → (r : Result Item Fault) × (pipe m gs env (trace (x ∷ []) end.Done) ≡ one_or r)
+AreMaps gs = (m : ℕ) (env : Numbers) (x : Item)
+    → (r : Result Item Fault) × (pipe m gs env (trace (x ∷ []) end.Done) ≡ one_or r)
 
 -- a walk without an item before a fault
 abbrev pub IsClean : Trace → Type 0
@@ -27,11 +28,13 @@ IsClean t = (f : Fault) → t.ending ≡ end.Fault f → t.items ≡ []
 
 -- stages make items of the same values of a walk, whatever the places of its items are
 abbrev pub IgnorePlaces : List AbstractStage → Type 0
-IgnorePlaces gs = (n : ℕ) (env : Numbers) (t : Trace) → pipe n gs env (with_places false t) ≡ with_places false (pipe n gs env t)
+IgnorePlaces gs = (n : ℕ) (env : Numbers) (t : Trace)
+    → pipe n gs env (with_places false t) ≡ with_places false (pipe n gs env t)
 
 -- what a walk over sources is after its legs, and after its slices
 abbrev pub walk_over : Begun → Numbers → List AbstractPlainSource → Trace
-walk_over b env ss = linked (links_in b.links.items) env (windowed b.window.from b.window.to (scanned (legs_in b.scans.items) env (source_walk ss)))
+walk_over b env ss = linked (links_in b.links.items) env
+    (windowed b.window.from b.window.to (scanned (legs_in b.scans.items) env (source_walk ss)))
 
 -- what a walk over sources is after all its stages
 abbrev pub begun_walk : Begun → Numbers → List AbstractPlainSource → Trace
@@ -39,6 +42,7 @@ begun_walk b env ss = walk_through b.stages env (walk_over b env ss)
 
 -- a route with one stage more, which has the next number and does this to a walk
 pub record HasNext (b : Begun) (does : ℕ → Numbers → Trace → Trace) (new : Begun) : Type 0 where
-  pub walk : (env : Numbers) (ss : List AbstractPlainSource) → begun_walk new env ss ≡ does (number_after b.stages) env (begun_walk b env ss)
+  pub walk : (env : Numbers) (ss : List AbstractPlainSource)
+      → begun_walk new env ss ≡ does (number_after b.stages) env (begun_walk b env ss)
   pub number : number_after new.stages ≡ suc (number_after b.stages)
   pub few : length new.links.items ≤ suc (length b.links.items)

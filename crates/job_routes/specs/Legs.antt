@@ -1,5 +1,6 @@
 -- Design: the legs of a job.
-use Rattle.std.specs.Prelude.{ℕ, zero, suc, ℤ, pos, Bool, true, false, ◌||◌, ◌+◌, List, [], ◌∷◌, length, map as each_of, Option, Some, None, is_some}
+use Rattle.std.specs.Prelude.{ℕ, zero, suc, ℤ, pos, Bool, true, false, ◌||◌, ◌+◌, List, [], ◌∷◌, length, map as each_of}
+use Rattle.std.specs.Prelude.{Option, Some, None, is_some}
 use Rattle.lambda_values.specs.Earlier.{Numbers}
 use Rattle.lambda_values.specs.Term.{Truth}
 use Rattle.lambda_values.specs.declared.item.Item.{Item}
@@ -20,7 +21,8 @@ use Rattle.sort_ops.specs.Runs.{with_places}
 use Rattle.prefix_walks.specs.Batches.{counted_as}
 use Rattle.prefix_walks.specs.Pieces.{elements}
 use Rattle.find_ops.specs.Finds.{Find, any_match, all_match, find_answer, find_of, first as find_first, none_match}
-use Rattle.job_language.specs.Jobs.{AbstractTerminal, sum, count, min, max, to_array, reduce, reduce_from, find, exact_sum}
+use Rattle.job_language.specs.Jobs.{AbstractTerminal, sum, count, min, max, to_array, reduce, reduce_from, find}
+use Rattle.job_language.specs.Jobs.{exact_sum}
 use Rattle.job_meaning.specs.declared.answer.Answer.{Answer}
 use Rattle.job_meaning.specs.declared.answer.Answer.TheVariants as answer
 use Rattle.job_routes.specs.declared.outcome.Outcome.{Outcome}
@@ -35,7 +37,8 @@ use Rattle.job_routes.specs.declared.segment.Segment.{Segment}
 use Rattle.job_routes.specs.declared.leg.Leg.{Leg}
 use Rattle.job_routes.specs.declared.leg.Link.{Link}
 
--- the end of a segment: a fold (its operator, its start, and whether it counts), a find or a match, the values, an exact
+-- the end of a segment: a fold (its operator, its start, and whether it counts), a find or a match, the values, an
+-- exact
 -- sum, a prefix (its operator and its range), a `sorted` (how many items are asked of it, or all, and whether they keep
 -- their places), or a `distinct` (how many items are asked of it)
 pub data AbstractEnd : Type 0 where
@@ -98,7 +101,8 @@ ended (scanning f r) n env t = outcome.Source (prefixed (value_of f) r n t)
 ended (sorting most places) n env t = outcome.Source (done_after most (sorted_walk (with_places places t)))
 ended (keeping_firsts most) n env t = outcome.Source (done_after most (distinct_walk [] t))
 ended exactly n env t = outcome.Answer (exact_answer (exactly_summed n t))
-ended collecting n env t = outcome.Answer (unless_fault t.ending (answer.Array (each_of (λ (x : Item). x.value) t.items)))
+ended collecting n env t = outcome.Answer
+    (unless_fault t.ending (answer.Array (each_of (λ (x : Item). x.value) t.items)))
 
 -- the walk of a segment's source through its stages
 abbrev pub walk_of : AbstractSegment → Numbers → Trace → Trace
@@ -146,7 +150,8 @@ sums_many (scanning f r) many = false
 sums_many (sorting most places) many = false
 sums_many (keeping_firsts most) many = false
 
--- whether a segment is walked in order: an exact sum of the many items that one may be made into, where the only end of a
+-- whether a segment is walked in order: an exact sum of the many items that one may be made into, where the only end of
+-- a
 -- piece may be the item at which the sum from the left is outside 64 bits
 abbrev pub is_in_order : AbstractSegment → Bool
 is_in_order s = sums_many s.ending (makes_many 2 s.stages)

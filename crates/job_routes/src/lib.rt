@@ -8,6 +8,8 @@
 //! gives. `fallback_of` says what a job gives after a fault.
 //! What it promises to its callers: `legs_of`: the legs have the job's answer, over any sources.
 //! Not promised: that a leg walks no more than its job needs.
+//!
+//! Tested: `plans.rt` of `test_engine`; runs of the programs in `tests`.
 #![tactic(auto)]
 
 mod asking;

@@ -31,7 +31,8 @@ positions_at p = ends_at p.tag p.side - begins p.tag p.side
 
 -- the cut is of the positions of this side of the parent
 abbrev pub IsSideOf : CutPiece → CutPiece × Bool → Type 0
-IsSideOf cut p = (p.0.job ≡ cut.job) × (p.0.leg ≡ cut.leg) × (begins p.0 (side_of p.1) ≡ cut.from) × (ends_at p.0 (side_of p.1) ≡ cut.to)
+IsSideOf cut p = (p.0.job ≡ cut.job) × (p.0.leg ≡ cut.leg) × (begins p.0 (side_of p.1) ≡ cut.from)
+    × (ends_at p.0 (side_of p.1) ≡ cut.to)
 
 -- a leg of a job of the run, and positions of its source, from one up to, not with, another
 pub record IsPiece (jobs : ℕ) (last : ℕ → ℕ) (size : ℕ → ℕ → ℕ) (job leg from to : ℕ) : Type 0 where
@@ -71,11 +72,13 @@ module _ {O P S A G : Type 0} (run : RunSpec O P S A G) where
 module _ {O P S A G X : Type 0} (run : RunSpec O P S A G) (found : X → Merged P) where
   -- what is handed in at a side of a cut: the part of these positions, a fault that the job catches, or nothing
   abbrev pub HandedIn : ℕ → ℕ → ℕ → ℕ → Result X Failure → Type 0
-  HandedIn job leg from to v = IfHanded (λ x. IfMerged (run.stands_for job leg from to) ⊥ (found x)) (HasFault run job leg) v
+  HandedIn job leg from to v = IfHanded (λ x. IfMerged (run.stands_for job leg from to) ⊥ (found x))
+      (HasFault run job leg) v
 
   -- what comes of all pieces between these positions: their part, a caught fault, or nothing; no fault goes on
   abbrev pub ComesOf : ℕ → ℕ → ℕ → ℕ → Result X Failure → Type 0
-  ComesOf job leg from to v = IfHanded (λ x. IfMerged (run.stands_for job leg from to) ((f : Fault) × HasFault run job leg f) (found x)) (λ f. ⊥) v
+  ComesOf job leg from to v = IfHanded (λ x. IfMerged (run.stands_for job leg from to)
+      ((f : Fault) × HasFault run job leg f) (found x)) (λ f. ⊥) v
 
   -- what is handed in at a side of a cut, or comes of both sides
   abbrev pub Fits : CutPiece → Side → Result X Failure → Type 0
@@ -92,5 +95,6 @@ module _ {O P S A G X : Type 0} (run : RunSpec O P S A G) (found : X → Merged 
   pub stands_moved : (v : Result X Failure) {j j' k k' : ℕ} → j ≡ j' → k ≡ k' → StandsWhole j k v → StandsWhole j' k' v
   stands_moved v {j} {j'} {k} {k'} ej ek h = subst (λ z. StandsWhole z k' v) ej (subst (λ z. StandsWhole j z v) ek h)
 
-  pub stands_whole : (v : Result X Failure) (j k : ℕ) {a b : ℕ} → a ≡ 0 → b ≡ run.size j k → ComesOf j k a b v → StandsWhole j k v
+  pub stands_whole : (v : Result X Failure) (j k : ℕ) {a b : ℕ} → a ≡ 0 → b ≡ run.size j k → ComesOf j k a b v
+      → StandsWhole j k v
   stands_whole v j k {a} {b} ea eb h = subst (λ z. ComesOf j k 0 z v) eb (subst (λ z. ComesOf j k z b v) ea h)

@@ -51,7 +51,8 @@ AreAnswers is_answer job [] = ⊤
 AreAnswers is_answer job (a ∷ rest) = is_answer job a × AreAnswers is_answer (suc job) rest
 
 -- no two proofs of that differ
-pub AreAnswers-prop : {O P S A G : Type 0} (run : RunSpec O P S A G) (job : ℕ) (answers : List A) → IsProp (AreAnswers run.is_answer job answers)
+pub AreAnswers-prop : {O P S A G : Type 0} (run : RunSpec O P S A G) (job : ℕ) (answers : List A)
+    → IsProp (AreAnswers run.is_answer job answers)
 AreAnswers-prop run job [] = Unit-prop
 AreAnswers-prop run job (a ∷ rest) = ×_prop (run.one_answer job a) (AreAnswers-prop run (suc job) rest)
 

@@ -70,14 +70,16 @@ module _ {T : Type 0} where
 
 module _ {V K T : Type 0} {g : Ghosts K V T} where
   -- the seat has these arrivals, and no side of a pair there
-  pub record HasKept (id : TableId) (jobs : ℕ) (start : ℕ → ℕ) (keeps : ℕ → List ℕ) (mine : List ℕ) (seat : Seat V K T g) : Type 0 where
+  pub record HasKept (id : TableId) (jobs : ℕ) (start : ℕ → ℕ) (keeps : ℕ → List ℕ) (mine : List ℕ)
+      (seat : Seat V K T g) : Type 0 where
     pub table : table_of seat ≡ id
     pub held : (i : ℕ) → count i mine ≤ count i (view_of seat).held
     pub plain_at : (i : ℕ) → 0 < count i mine → IsPlainAt i (view_of seat)
     pub knows : KnowsStarts jobs start keeps (view_of seat)
 
   -- the seat has an arrival at the start node of the job, and no side of a pair
-  pub record CanArrive (id : TableId) (jobs : ℕ) (start : ℕ → ℕ) (keeps : ℕ → List ℕ) (job : ℕ) (seat : Seat V K T g) : Type 0 where
+  pub record CanArrive (id : TableId) (jobs : ℕ) (start : ℕ → ℕ) (keeps : ℕ → List ℕ) (job : ℕ)
+      (seat : Seat V K T g) : Type 0 where
     pub table : table_of seat ≡ id
     pub held : 0 < count (start job) (view_of seat).held
     pub no_side : (k : ℕ) → count k (view_of seat).sides ≡ 0

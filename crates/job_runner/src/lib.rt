@@ -13,6 +13,8 @@
 //! threads.
 //! Not promised: that the call returns, that there is memory, that an answer comes from the tasks (else whoever reads
 //! it works it out), or speed.
+//!
+//! Tested: `driven.rt`, `lists.rt` of `test_engine`; runs of the programs in `tests`.
 #![tactic(auto)]
 
 mod alone;

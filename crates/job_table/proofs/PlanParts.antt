@@ -1,5 +1,7 @@
 -- Parts of a leg, from the part of no item to the one for all positions, and the answer that it gives.
-use Rattle.std.proofs.Common.{◌≡◌, ℕ, suc, ◌+◌, ◌-◌, ◌<◌, ◌≤◌, drop, length, take, Bool, true, false, List, [], ◌∷◌, Option, Some, None, Result, Ok, Err, IfOk, if◌then◌else◌, ◌==◌, ap, sym, subst, ◌∙◌, refl, arith, eq-eqb, ne_eqb, zero, get_or}
+use Rattle.std.proofs.Common.{◌≡◌, ℕ, suc, ◌+◌, ◌-◌, ◌<◌, ◌≤◌, drop, length, take, Bool, true, false, List, [], ◌∷◌}
+use Rattle.std.proofs.Common.{Option, Some, None, Result, Ok, Err, IfOk, if◌then◌else◌, ◌==◌, ap, sym, subst, ◌∙◌, refl}
+use Rattle.std.proofs.Common.{arith, eq-eqb, ne_eqb, zero, get_or}
 use Rattle.trace.specs.Trace.{Trace, append, nothing}
 use Rattle.lambda_values.specs.Earlier.{Numbers}
 use Rattle.job_routes.specs.declared.outcome.Outcome.{Outcome}
@@ -10,13 +12,16 @@ use Rattle.early_stop.specs.Leaving.{IsEnough}
 use Rattle.early_stop.proofs.Leaving.{enough_as, enough_gives, enough_joined, enough_left}
 use Rattle.job_plan.specs.Parts.{EndsFor, StandsEnough, StandsFor, is_running, is_settled, may_search}
 use Rattle.job_plan.specs.Plans.{plan_in, plans_in}
-use Rattle.job_routes.specs.Legs.{is_one_piece, AbstractEnd, AbstractLeg, AbstractSegment, ended, exactly, given_answer, given_walk, last_stage, leg_at, legs_answer, linked, outcome_of, walk_of, AbstractLegs, leg_among, leg_outcome, scanned}
+use Rattle.job_routes.specs.Legs.{is_one_piece, AbstractEnd, AbstractLeg, AbstractSegment, ended, exactly, given_answer}
+use Rattle.job_routes.specs.Legs.{given_walk, last_stage, leg_at, legs_answer, linked, outcome_of, walk_of}
+use Rattle.job_routes.specs.Legs.{AbstractLegs, leg_among, leg_outcome, scanned}
 use Rattle.job_plan.proofs.EnoughLemmas.{whole_enough}
 use Rattle.job_plan.proofs.PartLemmas.{other_ends, settled_decides}
 use Rattle.prefix_walks.specs.Pieces.{IsNotAfter, piece_of}
 use Rattle.prefix_walks.proofs.ScanLemmas.{pieces_joined, whole_piece}
 use Rattle.job_routes.proofs.LinkLemmas.{without_slices, unlinked}
-use Rattle.job_table.specs.PlanLegs.{AbstractChain, PartStands, given_at, gives_at, last_leg, piece_between, size_at, source_at, upto, walk_at, walk_size, plan_at}
+use Rattle.job_table.specs.PlanLegs.{AbstractChain, PartStands, given_at, gives_at, last_leg, piece_between, size_at}
+use Rattle.job_table.specs.PlanLegs.{source_at, upto, walk_at, walk_size, plan_at}
 use Rattle.job_plan.specs.declared.plan.JobPlan.{JobPlan}
 
 -- the leg after all that end in prefixes
@@ -30,16 +35,22 @@ module _ (env : Numbers) where
   last_passed (l ∷ ls) t = last_passed ls (given_walk (leg_outcome l env t))
 
   -- the answer of legs is the answer of the last one
-  pub answer_there : (legs : AbstractLegs) (t : Trace) → legs_answer legs env t ≡ given_answer (leg_outcome (leg_at (last_leg legs) legs) env (scanned (take (last_leg legs) legs.scans) env t))
-  answer_there legs t = sym (λ i. given_answer (leg_outcome (last_among legs.scans legs.last i) env (last_passed legs.scans t i)))
+  pub answer_there : (legs : AbstractLegs) (t : Trace)
+      → legs_answer legs env t ≡ given_answer
+      (leg_outcome (leg_at (last_leg legs) legs) env (scanned (take (last_leg legs) legs.scans) env t))
+  answer_there legs t = sym (λ i. given_answer
+      (leg_outcome (last_among legs.scans legs.last i) env (last_passed legs.scans t i)))
 
   -- a leg goes over what the one before it gave
-  among_on : (k : ℕ) (ls : List AbstractLeg) (last : AbstractLeg) (t : Trace) → k < length ls → scanned (take (suc k) ls) env t ≡ given_walk (leg_outcome (leg_among k ls last) env (scanned (take k ls) env t))
+  among_on : (k : ℕ) (ls : List AbstractLeg) (last : AbstractLeg) (t : Trace) → k < length ls
+      → scanned (take (suc k) ls) env t ≡ given_walk (leg_outcome (leg_among k ls last) env (scanned (take k ls) env t))
   among_on k [] last t h = absurd (omega arith)
   among_on zero (l ∷ ls) last t h = refl
   among_on (suc k) (l ∷ ls) last t h = among_on k ls last (given_walk (leg_outcome l env t)) (omega arith)
 
-  pub goes_on : (k : ℕ) (legs : AbstractLegs) (t : Trace) → k < last_leg legs → scanned (take (suc k) legs.scans) env t ≡ given_walk (leg_outcome (leg_at k legs) env (scanned (take k legs.scans) env t))
+  pub goes_on : (k : ℕ) (legs : AbstractLegs) (t : Trace) → k < last_leg legs
+      → scanned (take (suc k) legs.scans) env t
+      ≡ given_walk (leg_outcome (leg_at k legs) env (scanned (take k legs.scans) env t))
   goes_on k legs t h = among_on k legs.scans legs.last t h
 
 -- a job of the program
@@ -50,7 +61,8 @@ plans_length (j ∷ js) = ap suc (plans_length js)
 pub job_within : (js ks : List JobPlan) (job : ℕ) → js ≡ ks → job < length (plans_in ks) → job < length js
 job_within js ks job same low = let l = plans_length ks in let e = ap length same in omega arith
 
-pub plan_got : (js : List JobPlan) (k : ℕ) (j : JobPlan) → k < length js → j ≡ get_or js k j → plan_in j ≡ plan_at (plans_in js) k
+pub plan_got : (js : List JobPlan) (k : ℕ) (j : JobPlan) → k < length js → j ≡ get_or js k j
+    → plan_in j ≡ plan_at (plans_in js) k
 plan_got [] k j h e = absurd (omega arith)
 plan_got (i ∷ js) zero j h e = ap plan_in e
 plan_got (i ∷ js) (suc k) j h e = plan_got js k j (omega arith) e
@@ -72,26 +84,33 @@ size_within chain leg = by (is_one_piece at) refl
     at : AbstractLeg
     at = leg_at leg chain.legs
 
-    by : (b : Bool) → is_one_piece at ≡ b → (if b then 0 else walk_size (source_at chain leg)) ≤ length (walk_at chain leg).items
+    by : (b : Bool) → is_one_piece at ≡ b
+        → (if b then 0 else walk_size (source_at chain leg)) ≤ length (walk_at chain leg).items
     by true e = omega arith
-    by false e = let same = ap (λ (t : Trace). length t.items) (unlinked at.links chain.numbers (source_at chain leg) (without_slices at e)) in omega (arith, same)
+    by false e = let same = ap (λ (t : Trace). length t.items)
+        (unlinked at.links chain.numbers (source_at chain leg) (without_slices at e)) in omega (arith, same)
 
-between_joined : (t : Trace) (size from middle to : ℕ) → from < middle → middle < to → to ≤ size → append (piece_between size from middle t) (piece_between size middle to t) ≡ piece_between size from to t
+between_joined : (t : Trace) (size from middle to : ℕ) → from < middle → middle < to → to ≤ size
+    → append (piece_between size from middle t) (piece_between size middle to t) ≡ piece_between size from to t
 between_joined t size from middle to l h w =
-    ap (λ (o : Option ℕ). append (piece_of from o t) (piece_between size middle to t)) (upto_middle size middle (omega arith))
+    ap (λ (o : Option ℕ). append (piece_of from o t) (piece_between size middle to t))
+    (upto_middle size middle (omega arith))
     ∙ pieces_joined t from middle (upto size to) (omega arith) (not_after (to == size) middle to (omega arith))
 
 between_all : (t : Trace) (size : ℕ) → piece_between size 0 size t ≡ t
 between_all t size = ap (λ (o : Option ℕ). piece_of 0 o t) (upto_last size) ∙ whole_piece t
 
-between_long : (t : Trace) (size from middle : ℕ) → from < middle → middle < size → size ≤ length t.items → from + length (piece_between size from middle t).items ≡ middle
+between_long : (t : Trace) (size from middle : ℕ) → from < middle → middle < size → size ≤ length t.items
+    → from + length (piece_between size from middle t).items ≡ middle
 between_long t size from middle l w fits =
     ap (λ (o : Option ℕ). from + length (piece_of from o t).items) (upto_middle size middle w)
     ∙ (let a = length-take (middle - from) (drop from t.items) in let d = length-drop from t.items in omega arith)
 
-pub merged : (chain : AbstractChain) (leg from middle to : ℕ) (p q r : Part) → from < middle → middle < to → to ≤ size_at chain leg
+pub merged : (chain : AbstractChain) (leg from middle to : ℕ) (p q r : Part) → from < middle → middle < to
+    → to ≤ size_at chain leg
     → PartStands chain leg from middle p → PartStands chain leg middle to q
-    → ((s : AbstractSegment) (env : Numbers) (a b : Trace) → StandsFor s env p a → StandsFor s env q b → StandsFor s env r (append a b))
+    → ((s : AbstractSegment) (env : Numbers) (a b : Trace) → StandsFor s env p a → StandsFor s env q b
+    → StandsFor s env r (append a b))
     → PartStands chain leg from to r
 merged chain leg from middle to p q r l h w (a, ea, sa) (b, eb, sb) merges =
     let decides = Decides (gives_at chain leg) (walk_at chain leg) in
@@ -100,46 +119,67 @@ merged chain leg from middle to p q r l h w (a, ea, sa) (b, eb, sb) merges =
       append a b,
       subst (λ (u : Trace). IsEnough decides from u (append a b)) (between_joined t size from middle to l h w)
           (enough_joined decides from (piece_between size from middle t) a (piece_between size middle to t) b ea
-          (subst (λ (n : ℕ). IsEnough decides n (piece_between size middle to t) b) (sym (between_long t size from middle l (omega arith) (size_within chain leg))) eb)),
+          (subst (λ (n : ℕ). IsEnough decides n (piece_between size middle to t) b)
+          (sym (between_long t size from middle l (omega arith) (size_within chain leg))) eb)),
       merges (leg_at leg chain.legs).last chain.numbers a b sa sb,
     )
 
 -- a piece that is left out
-pub left_stands : (chain : AbstractChain) (leg from to : ℕ) (p : Part) (c : ℕ) → c ≤ from → Decides (gives_at chain leg) (walk_at chain leg) c → StandsFor (leg_at leg chain.legs).last chain.numbers p nothing → PartStands chain leg from to p
-left_stands chain leg from to p c h ok stands =
-    (nothing, enough_left (Decides (gives_at chain leg) (walk_at chain leg)) from c (piece_between (size_at chain leg) from to (walk_at chain leg)) nothing ok h, stands)
+pub left_stands : (chain : AbstractChain) (leg from to : ℕ) (p : Part) (c : ℕ) → c ≤ from
+    → Decides (gives_at chain leg) (walk_at chain leg) c
+    → StandsFor (leg_at leg chain.legs).last chain.numbers p nothing → PartStands chain leg from to p
+left_stands chain leg from to p c h ok stands = (
+  nothing,
+  enough_left (Decides (gives_at chain leg) (walk_at chain leg)) from c
+      (piece_between (size_at chain leg) from to (walk_at chain leg)) nothing ok h,
+  stands,
+)
 
 -- after a settled part nothing matters
-pub part_decides : (chain : AbstractChain) (leg from to : ℕ) (p : Part) → from ≤ to → to < size_at chain leg → is_settled p ≡ true → (is_running p ≡ true → from ≡ 0) → PartStands chain leg from to p → Decides (gives_at chain leg) (walk_at chain leg) to
+pub part_decides : (chain : AbstractChain) (leg from to : ℕ) (p : Part) → from ≤ to → to < size_at chain leg
+    → is_settled p ≡ true → (is_running p ≡ true → from ≡ 0) → PartStands chain leg from to p
+    → Decides (gives_at chain leg) (walk_at chain leg) to
 part_decides chain leg from to p h w settled first stands =
     let l = leg_at leg chain.legs in
     let fits = size_within chain leg in
     settled_decides l.last chain.numbers p (walk_at chain leg) from to h (omega arith) settled first
-    (subst (λ (o : Option ℕ). StandsEnough (Decides (gives_at chain leg) (walk_at chain leg)) l.last chain.numbers p from (piece_of from o (walk_at chain leg))) (upto_middle (size_at chain leg) to w) stands)
+    (subst (λ (o : Option ℕ). StandsEnough (Decides (gives_at chain leg) (walk_at chain leg)) l.last chain.numbers p
+    from (piece_of from o (walk_at chain leg))) (upto_middle (size_at chain leg) to w) stands)
 
 module _ (chain : AbstractChain) (leg : ℕ) (part : Part) where
-  outcome_all : (o : Outcome) → ((s : AbstractSegment) (t : Trace) → StandsFor s chain.numbers part t → o ≡ outcome_of s chain.numbers t) → PartStands chain leg 0 (size_at chain leg) part → o ≡ gives_at chain leg (walk_at chain leg)
+  outcome_all : (o : Outcome) → ((s : AbstractSegment) (t : Trace) → StandsFor s chain.numbers part t
+      → o ≡ outcome_of s chain.numbers t) → PartStands chain leg 0 (size_at chain leg) part
+      → o ≡ gives_at chain leg (walk_at chain leg)
   outcome_all o ends (t, enough, h) =
       ends (leg_at leg chain.legs).last t h
-      ∙ enough_gives (gives_at chain leg) (walk_at chain leg) t (subst (λ (u : Trace). IsEnough (Decides (gives_at chain leg) (walk_at chain leg)) 0 u t) (between_all (walk_at chain leg) (size_at chain leg)) enough)
+      ∙ enough_gives (gives_at chain leg) (walk_at chain leg) t
+      (subst (λ (u : Trace). IsEnough (Decides (gives_at chain leg) (walk_at chain leg)) 0 u t)
+      (between_all (walk_at chain leg) (size_at chain leg)) enough)
 
   -- the next leg goes over what this one gave
-  pub goes_over : (o : Outcome) → ((s : AbstractSegment) (t : Trace) → StandsFor s chain.numbers part t → o ≡ outcome_of s chain.numbers t) → leg < last_leg chain.legs → PartStands chain leg 0 (size_at chain leg) part
+  pub goes_over : (o : Outcome) → ((s : AbstractSegment) (t : Trace) → StandsFor s chain.numbers part t
+      → o ≡ outcome_of s chain.numbers t) → leg < last_leg chain.legs → PartStands chain leg 0 (size_at chain leg) part
       → given_walk o ≡ given_at chain (suc leg)
-  goes_over o ends before stands = ap given_walk (outcome_all o ends stands) ∙ sym (goes_on chain.numbers leg chain.legs chain.source before)
+  goes_over o ends before stands = ap given_walk (outcome_all o ends stands)
+      ∙ sym (goes_on chain.numbers leg chain.legs chain.source before)
 
   -- a part that leaves it open what its leg gives is of a leg that gives no walk
-  searched : (e : AbstractEnd) (n : ℕ) (t w : Trace) → EndsFor e n chain.numbers part t → may_search part ≡ true → nothing ≡ given_walk (ended e n chain.numbers w)
+  searched : (e : AbstractEnd) (n : ℕ) (t w : Trace) → EndsFor e n chain.numbers part t → may_search part ≡ true
+      → nothing ≡ given_walk (ended e n chain.numbers w)
   searched exactly n t w h may = refl
-  searched e n t w h may = absurd (let z : true ≡ false = sym may ∙ other_ends e n chain.numbers part t (λ x. (let k : e ≡ exactly = x in cc)) h in cc)
+  searched e n t w h may = absurd (let z : true ≡ false =
+      sym may ∙ other_ends e n chain.numbers part t (λ x. (let k : e ≡ exactly = x in cc)) h in cc)
 
-  pub goes_nowhere : leg < last_leg chain.legs → PartStands chain leg 0 (size_at chain leg) part → may_search part ≡ true → nothing ≡ given_at chain (suc leg)
+  pub goes_nowhere : leg < last_leg chain.legs → PartStands chain leg 0 (size_at chain leg) part
+      → may_search part ≡ true → nothing ≡ given_at chain (suc leg)
   goes_nowhere before (t, enough, h) may =
       let s = (leg_at leg chain.legs).last in
-      searched s.ending (last_stage s) (walk_of s chain.numbers t) (walk_of s chain.numbers (walk_at chain leg)) h may ∙ sym (goes_on chain.numbers leg chain.legs chain.source before)
+      searched s.ending (last_stage s) (walk_of s chain.numbers t) (walk_of s chain.numbers (walk_at chain leg)) h may
+      ∙ sym (goes_on chain.numbers leg chain.legs chain.source before)
 
   -- the last leg gives the answer of the job
-  pub last_answer : (o : Outcome) → ((s : AbstractSegment) (t : Trace) → StandsFor s chain.numbers part t → o ≡ outcome_of s chain.numbers t) → leg ≡ last_leg chain.legs → PartStands chain leg 0 (size_at chain leg) part
+  pub last_answer : (o : Outcome) → ((s : AbstractSegment) (t : Trace) → StandsFor s chain.numbers part t
+      → o ≡ outcome_of s chain.numbers t) → leg ≡ last_leg chain.legs → PartStands chain leg 0 (size_at chain leg) part
       → given_answer o ≡ legs_answer chain.legs chain.numbers chain.source
   last_answer o ends last stands =
       ap given_answer (outcome_all o ends stands)
@@ -147,52 +187,75 @@ module _ (chain : AbstractChain) (leg : ℕ) (part : Part) where
       ∙ sym (answer_there chain.numbers chain.legs chain.source)
 
 -- the part of all that comes through a leg's slices
-all_stands : {F : Type 0} (chain : AbstractChain) (leg : ℕ) (l : AbstractLeg) (r : Result Part F) (env : Numbers) (w : Trace) → l ≡ leg_at leg chain.legs → env ≡ chain.numbers → w ≡ source_at chain leg
-    → IfOk r (λ part. StandsFor l.last env part (linked l.links env w)) → IfOk r (λ part. PartStands chain leg 0 (size_at chain leg) part)
+all_stands : {F : Type 0} (chain : AbstractChain) (leg : ℕ) (l : AbstractLeg) (r : Result Part F) (env : Numbers)
+    (w : Trace) → l ≡ leg_at leg chain.legs → env ≡ chain.numbers → w ≡ source_at chain leg
+    → IfOk r (λ part. StandsFor l.last env part (linked l.links env w))
+    → IfOk r (λ part. PartStands chain leg 0 (size_at chain leg) part)
 all_stands chain leg l (Ok p) env w got alone walks h =
     let size = size_at chain leg in
     let t = walk_at chain leg in
     let a = subst (λ (u : Trace). StandsFor l.last env p (linked l.links env u)) walks h in
     let b = subst (λ (e : Numbers). StandsFor l.last e p (linked l.links e (source_at chain leg))) alone a in
-    let d = subst (λ (k : AbstractLeg). StandsFor k.last chain.numbers p (linked k.links chain.numbers (source_at chain leg))) got b in
-    let stands = subst (λ (u : Trace). StandsFor (leg_at leg chain.legs).last chain.numbers p u) (sym (between_all t size)) d in
-    whole_enough (leg_at leg chain.legs).last chain.numbers p (Decides (gives_at chain leg) t) 0 (piece_between size 0 size t) stands
+    let d = subst (λ (k : AbstractLeg). StandsFor k.last chain.numbers p
+    (linked k.links chain.numbers (source_at chain leg))) got b in
+    let stands = subst (λ (u : Trace). StandsFor (leg_at leg chain.legs).last chain.numbers p u)
+    (sym (between_all t size)) d in
+    whole_enough (leg_at leg chain.legs).last chain.numbers p (Decides (gives_at chain leg) t) 0
+    (piece_between size 0 size t) stands
 all_stands chain leg l (Err e) env w got alone walks h = tt
 
 -- a piece of a leg whose walk is one piece is all of it
-pub one_piece : (chain : AbstractChain) (leg from to : ℕ) (l : AbstractLeg) → l ≡ leg_at leg chain.legs → is_one_piece l ≡ true → from ≤ to → to ≤ size_at chain leg → (from ≡ 0) × (to ≡ size_at chain leg)
+pub one_piece : (chain : AbstractChain) (leg from to : ℕ) (l : AbstractLeg) → l ≡ leg_at leg chain.legs
+    → is_one_piece l ≡ true → from ≤ to → to ≤ size_at chain leg → (from ≡ 0) × (to ≡ size_at chain leg)
 one_piece chain leg from to l got whole ordered within =
-    let none : size_at chain leg ≡ 0 = ap (λ (b : Bool). if b then 0 else walk_size (source_at chain leg)) (ap is_one_piece (sym got) ∙ whole) in
+    let none : size_at chain leg ≡ 0 = ap (λ (b : Bool). if b then 0 else walk_size (source_at chain leg))
+    (ap is_one_piece (sym got) ∙ whole) in
     (omega (arith, none, ordered, within), omega (arith, none, within))
 
 -- the part of a piece that is all of a leg
-pub streamed_stands : {F : Type 0} (chain : AbstractChain) (leg from to : ℕ) (l : AbstractLeg) (r : Result Part F) (env : Numbers) (w : Trace) → l ≡ leg_at leg chain.legs → env ≡ chain.numbers
-    → w ≡ source_at chain leg → (from ≡ 0) × (to ≡ size_at chain leg) → IfOk r (λ part. StandsFor l.last env part (linked l.links env w)) → IfOk r (λ part. PartStands chain leg from to part)
+pub streamed_stands : {F : Type 0} (chain : AbstractChain) (leg from to : ℕ) (l : AbstractLeg) (r : Result Part F)
+    (env : Numbers) (w : Trace) → l ≡ leg_at leg chain.legs → env ≡ chain.numbers
+    → w ≡ source_at chain leg → (from ≡ 0) × (to ≡ size_at chain leg)
+    → IfOk r (λ part. StandsFor l.last env part (linked l.links env w))
+    → IfOk r (λ part. PartStands chain leg from to part)
 streamed_stands chain leg from to l r env w got alone walks whole h =
     subst (λ (n : ℕ). IfOk r (λ part. PartStands chain leg n to part)) (sym whole.0)
-    (subst (λ (n : ℕ). IfOk r (λ part. PartStands chain leg 0 n part)) (sym whole.1) (all_stands chain leg l r env w got alone walks h))
+    (subst (λ (n : ℕ). IfOk r (λ part. PartStands chain leg 0 n part)) (sym whole.1)
+    (all_stands chain leg l r env w got alone walks h))
 
 -- the end of a piece, by a test whether it is the last position
 pub upto_all : (size n to : ℕ) (u : Option ℕ) → n ≡ size → to ≡ n → u ≡ None → u ≡ upto size to
-upto_all size n to u same here e = e ∙ sym (ap (λ (b : Bool). if b then None else Some to) (eq-eqb to size (here ∙ same)))
+upto_all size n to u same here e = e ∙ sym
+    (ap (λ (b : Bool). if b then None else Some to) (eq-eqb to size (here ∙ same)))
 
 pub upto_some : (size n to : ℕ) (u : Option ℕ) → n ≡ size → (to ≡ n → ⊥) → u ≡ Some to → u ≡ upto size to
-upto_some size n to u same other e = e ∙ sym (ap (λ (b : Bool). if b then None else Some to) (ne_eqb to size (λ x. other (x ∙ sym same))))
+upto_some size n to u same other e = e ∙ sym
+    (ap (λ (b : Bool). if b then None else Some to) (ne_eqb to size (λ x. other (x ∙ sym same))))
 
 -- the part of a piece of a leg whose walk may be cut
-pub piece_stands : {F : Type 0} (chain : AbstractChain) (leg from to : ℕ) (l : AbstractLeg) (w : Trace) (env : Numbers) (u : Option ℕ) (decides : ℕ → Type 0) (r : Result Part F)
-    → l ≡ leg_at leg chain.legs → is_one_piece l ≡ false → env ≡ chain.numbers → w ≡ source_at chain leg → u ≡ upto (walk_size w) to → ((c : ℕ) → decides c → Decides (gives_at chain leg) (walk_at chain leg) c)
-    → IfOk r (λ part. StandsEnough decides l.last env part from (piece_of from u w)) → IfOk r (λ part. PartStands chain leg from to part)
+pub piece_stands : {F : Type 0} (chain : AbstractChain) (leg from to : ℕ) (l : AbstractLeg) (w : Trace) (env : Numbers)
+    (u : Option ℕ) (decides : ℕ → Type 0) (r : Result Part F)
+    → l ≡ leg_at leg chain.legs → is_one_piece l ≡ false → env ≡ chain.numbers → w ≡ source_at chain leg
+    → u ≡ upto (walk_size w) to → ((c : ℕ) → decides c → Decides (gives_at chain leg) (walk_at chain leg) c)
+    → IfOk r (λ part. StandsEnough decides l.last env part from (piece_of from u w))
+    → IfOk r (λ part. PartStands chain leg from to part)
 piece_stands chain leg from to l w env u decides (Ok p) got plain alone walks ends more h =
     let at = leg_at leg chain.legs in
     let cut : is_one_piece at ≡ false = ap is_one_piece (sym got) ∙ plain in
     let bare = without_slices at cut in
     let over : w ≡ walk_at chain leg = walks ∙ sym (unlinked at.links chain.numbers (source_at chain leg) bare) in
-    let size : walk_size w ≡ size_at chain leg = ap walk_size walks ∙ sym (ap (λ (b : Bool). if b then 0 else walk_size (source_at chain leg)) cut) in
+    let size : walk_size w ≡ size_at chain leg =
+    ap walk_size walks ∙ sym (ap (λ (b : Bool). if b then 0 else walk_size (source_at chain leg)) cut) in
     let last : u ≡ upto (size_at chain leg) to = ends ∙ ap (λ (n : ℕ). upto n to) size in
     let a = subst (λ (e : Numbers). StandsEnough decides l.last e p from (piece_of from u w)) alone h in
     let b = subst (λ (v : Option ℕ). StandsEnough decides l.last chain.numbers p from (piece_of from v w)) last a in
-    let d = subst (λ (t : Trace). StandsEnough decides l.last chain.numbers p from (piece_between (size_at chain leg) from to t)) over b in
-    let k = subst (λ (k : AbstractLeg). StandsEnough decides k.last chain.numbers p from (piece_between (size_at chain leg) from to (walk_at chain leg))) got d in
-    (k.0, enough_as decides (Decides (gives_at chain leg) (walk_at chain leg)) from (piece_between (size_at chain leg) from to (walk_at chain leg)) k.0 more k.1, k.2)
+    let d = subst (λ (t : Trace). StandsEnough decides l.last chain.numbers p from
+    (piece_between (size_at chain leg) from to t)) over b in
+    let k = subst (λ (k : AbstractLeg). StandsEnough decides k.last chain.numbers p from
+    (piece_between (size_at chain leg) from to (walk_at chain leg))) got d in (
+      k.0,
+      enough_as decides (Decides (gives_at chain leg) (walk_at chain leg)) from
+          (piece_between (size_at chain leg) from to (walk_at chain leg)) k.0 more k.1,
+      k.2,
+    )
 piece_stands chain leg from to l w env u decides (Err e) got plain alone walks ends more h = tt

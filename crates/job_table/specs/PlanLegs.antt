@@ -1,5 +1,6 @@
 -- Condition: the legs of a plan: what each goes over, and what its parts describe; and the plan as what a run is over.
-use Rattle.std.specs.Prelude.{◌≡◌, ℕ, pos, ◌-◌, ◌^◌, min, take, List, [], length, Option, Some, None, slice_index_or, if◌then◌else◌, ◌==◌}
+use Rattle.std.specs.Prelude.{◌≡◌, ℕ, pos, ◌-◌, ◌^◌, min, take, List, [], length, Option, Some, None, slice_index_or}
+use Rattle.std.specs.Prelude.{if◌then◌else◌, ◌==◌}
 use Rattle.std.specs.Coded.{×_prop}
 use Rattle.std.proofs.Props.{props}
 use base.Stored.{Coded-set, coded_list}
@@ -17,7 +18,8 @@ use Rattle.job_meaning.specs.contracts.answer.Answer as answers
 use Rattle.job_meaning.specs.FileAnswers.{EarlierJob, all_put_in, first_unusable, numbers_of}
 use Rattle.job_meaning.specs.Walks.{source_walk}
 use Rattle.job_routes.specs.declared.outcome.Outcome.{Outcome}
-use Rattle.job_routes.specs.Legs.{AbstractLeg, AbstractLegs, collecting, is_one_piece, leg_at, leg_walk, linked, outcome_of, scanned}
+use Rattle.job_routes.specs.Legs.{AbstractLeg, AbstractLegs, collecting, is_one_piece, leg_at, leg_walk, linked}
+use Rattle.job_routes.specs.Legs.{outcome_of, scanned}
 use Rattle.job_plan.specs.declared.part.Part.{Part}
 use Rattle.job_plan.specs.declared.plan.JobPlan.{JobPlan}
 use Rattle.job_plan.specs.contracts.plan.JobPlan as plans
@@ -37,7 +39,11 @@ no_plan = record {
   name = [];
   named = [];
   sources = [];
-  legs = record { scans = []; last = record { from = 0; to = None; links = []; last = record { first = 0; stages = []; ending = collecting } } };
+  legs = record {
+    scans = [];
+    last = record
+        { from = 0; to = None; links = []; last = record { first = 0; stages = []; ending = collecting } };
+  };
   fallback = None;
   table = [];
 }
@@ -58,7 +64,8 @@ answers_before plans job = take job (planned_meaning plans)
 abbrev pub named_at : List AbstractPlan → ℕ → List EarlierJob
 named_at plans job = jobs_at (answers_before plans job) (plan_at plans job).named
 
--- what a run walks of the job with this number: with the arrays and the numbers of the jobs that it names, and its table
+-- what a run walks of the job with this number: with the arrays and the numbers of the jobs that it names, and its
+-- table
 abbrev pub chain_at : List AbstractPlan → ℕ → AbstractChain
 chain_at plans job = record {
   legs = (plan_at plans job).legs;
@@ -108,7 +115,8 @@ gives_at chain k = outcome_of (leg_at k chain.legs).last chain.numbers
 -- a part of a job's leg for these positions, or for enough of them
 abbrev pub PartStands : AbstractChain → ℕ → ℕ → ℕ → Part → Type 0
 PartStands chain k from to part =
-    StandsEnough (Decides (gives_at chain k) (walk_at chain k)) (leg_at k chain.legs).last chain.numbers part from (piece_between (size_at chain k) from to (walk_at chain k))
+    StandsEnough (Decides (gives_at chain k) (walk_at chain k)) (leg_at k chain.legs).last chain.numbers part from
+    (piece_between (size_at chain k) from to (walk_at chain k))
 
 -- ---- a run
 
@@ -144,5 +152,6 @@ run_of plans = record {
   is_given = IsTaken plans;
   one_source = λ job leg walk. Coded-set (chunks.the_row).coded walk (given_at (chain_at plans job) leg);
   one_answer = λ job a. Coded-set (answers.the_row).coded a (answer_of plans job);
-  one_given = λ job env. ×_prop (hlevel props) (Coded-set (envs.the_row (record { mir = static; lft = [] })).coded env (chain_at plans job).numbers);
+  one_given = λ job env. ×_prop (hlevel props)
+      (Coded-set (envs.the_row (record { mir = static; lft = [] })).coded env (chain_at plans job).numbers);
 }

@@ -9,6 +9,8 @@
 //! settings and in any schedule.
 //! Begin with `planned.rt` and `specs/PlanLegs.antt`, then `plan_legs.rt` and `plan_parts.rt`.
 //! Not promised: what `job_runner` doesn't promise: that the call returns, that there is memory, or speed.
+//!
+//! Tested: `driven.rt`, `leaves.rt` of `test_engine`; runs of the programs in `tests`.
 #![tactic(auto)]
 
 mod plan_legs;

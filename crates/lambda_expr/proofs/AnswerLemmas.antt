@@ -25,19 +25,37 @@ pub record IsRead (cells : Bool) (text : List ℕ) (ts : List Token) (ws : List 
 abbrev IsVerdict : List ℕ → List Token → Want → BodySteps → Result Lambda ReadFault → Type 0
 IsVerdict text ts w ss r = (b : BodyShape) → AreSteps b ss → IsJudged (verdict w (names_in text ts) b) r
 
-abbrev spelled : (cells : Bool) (text : List ℕ) (ts : List Token) (ws : List Lexeme) (w : Want) (e : BodyShape) → IsRead cells text ts ws → IsLambda w ws e → IsSpelled cells text w e
-spelled cells text ts ws w e r l = record { tokens = ts; cut = r.cut; few = r.few; lambda = subst (λ ws. IsLambda w ws e) r.words l }
+abbrev spelled : (cells : Bool) (text : List ℕ) (ts : List Token) (ws : List Lexeme) (w : Want) (e : BodyShape)
+    → IsRead cells text ts ws → IsLambda w ws e → IsSpelled cells text w e
+spelled cells text ts ws w e r l = record
+    { tokens = ts; cut = r.cut; few = r.few; lambda = subst (λ ws. IsLambda w ws e) r.words l }
 
-pub judged_ok : (cells : Bool) (text : List ℕ) (ts : List Token) (ws : List Lexeme) (w : Want) (ss : BodySteps) (r : Result Lambda ReadFault) → IsRead cells text ts ws → IsWritten w ws ss → IsVerdict text ts w ss r → IfOk r (λ l. SpellsLambdaWithin cells text w l)
-judged_ok cells text ts ws w ss (Ok l) is x v = record { body = x.0; spelled = spelled cells text ts ws w x.0 is x.1; gives = v x.0 x.2 }
+pub judged_ok : (cells : Bool) (text : List ℕ) (ts : List Token) (ws : List Lexeme) (w : Want) (ss : BodySteps)
+    (r : Result Lambda ReadFault) → IsRead cells text ts ws → IsWritten w ws ss → IsVerdict text ts w ss r
+    → IfOk r (λ l. SpellsLambdaWithin cells text w l)
+judged_ok cells text ts ws w ss (Ok l) is x v =
+    record { body = x.0; spelled = spelled cells text ts ws w x.0 is x.1; gives = v x.0 x.2 }
 judged_ok cells text ts ws w ss (Err f) is x v = tt
 
-pub judged_refused : (cells : Bool) (text : List ℕ) (ts : List Token) (ws : List Lexeme) (w : Want) (ss : BodySteps) (r : Result Lambda ReadFault) → IsRead cells text ts ws → IsWritten w ws ss → IsVerdict text ts w ss r → IfErr r (λ f. IsRefusedWithin cells text w f)
+pub judged_refused : (cells : Bool) (text : List ℕ) (ts : List Token) (ws : List Lexeme) (w : Want) (ss : BodySteps)
+    (r : Result Lambda ReadFault) → IsRead cells text ts ws → IsWritten w ws ss → IsVerdict text ts w ss r
+    → IfErr r (λ f. IsRefusedWithin cells text w f)
 judged_refused cells text ts ws w ss (Ok l) is x v = tt
 judged_refused cells text ts ws w ss (Err (fault.Syntax n)) is x v = absurd (v x.0 x.2)
-judged_refused cells text ts ws w ss (Err fault.TooDeep) is x v = inr (record { body = x.0; spelled = spelled cells text ts ws w x.0 is x.1; gives = v x.0 x.2 })
+judged_refused cells text ts ws w ss (Err fault.TooDeep) is x v =
+    inr (record { body = x.0; spelled = spelled cells text ts ws w x.0 is x.1; gives = v x.0 x.2 })
 judged_refused cells text ts ws w ss (Err fault.NoMemory) is x v = tt
-judged_refused cells text ts ws w ss y is x v = record { body = x.0; spelled = spelled cells text ts ws w x.0 is x.1; gives = v x.0 x.2 }
+judged_refused cells text ts ws w ss y is x v =
+    record { body = x.0; spelled = spelled cells text ts ws w x.0 is x.1; gives = v x.0 x.2 }
 
-pub stopped : (cells : Bool) (text : List ℕ) (ts : List Token) (ws : List Lexeme) (w : Want) (n at : ℕ) → IsRead cells text ts ws → StopsAt (ALambda w) ws n → at ≡ column text ts n → IsNoLambda cells text w at
-stopped cells text ts ws w n at is s here = record { tokens = ts; cut = is.cut; few = is.few; place = n; stops = subst (λ ws. StopsAt (ALambda w) ws n) is.words s; here = here }
+pub stopped : (cells : Bool) (text : List ℕ) (ts : List Token) (ws : List Lexeme) (w : Want) (n at : ℕ)
+    → IsRead cells text ts ws → StopsAt (ALambda w) ws n → at ≡ column text ts n → IsNoLambda cells text w at
+stopped cells text ts ws w n at is s here =
+    record {
+      tokens = ts;
+      cut = is.cut;
+      few = is.few;
+      place = n;
+      stops = subst (λ ws. StopsAt (ALambda w) ws n) is.words s;
+      here = here;
+    }

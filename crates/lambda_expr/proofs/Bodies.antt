@@ -32,7 +32,8 @@ from_body ws b = from_body_by ws b.0 b.1
 as_body : (ws : List Lexeme) (n : ℕ) → StopsAt AStream ws n → StopsAt (ABody want.Stream) ws n
 as_body ws n s = stop_same AStream (ABody want.Stream) ws n to_body from_body s
 
-front_stops : (ws : List Lexeme) (r : Result Opened ℕ) (n : ℕ) → IsFound AStream 0 ws r → r ≡ Err n → StopsAt (ABody want.Stream) ws n
+front_stops : (ws : List Lexeme) (r : Result Opened ℕ) (n : ℕ) → IsFound AStream 0 ws r → r ≡ Err n
+    → StopsAt (ABody want.Stream) ws n
 front_stops ws (Ok o) n f is = absurd cc
 front_stops ws (Err k) n f is =
     let same : k ≡ n = cc in
@@ -43,25 +44,32 @@ front_stops ws (Err k) n f is =
 pub stops_in_front : (ws : List Lexeme) (n : ℕ) → stream_at ws ≡ Err n → StopsAt (ABody want.Stream) ws n
 stops_in_front ws n is = front_stops ws (stream_at ws) n (stream_found ws) is
 
-rest_stops : (ws : List Lexeme) (r : Result Opened ℕ) (o : Opened) (q : ℕ) → IsFound AStream 0 ws r → r ≡ Ok o → StopsAt (Operands o.source) (drop o.count ws) q → StopsAt (ABody want.Stream) ws (o.count + q)
+rest_stops : (ws : List Lexeme) (r : Result Opened ℕ) (o : Opened) (q : ℕ) → IsFound AStream 0 ws r → r ≡ Ok o
+    → StopsAt (Operands o.source) (drop o.count ws) q → StopsAt (ABody want.Stream) ws (o.count + q)
 rest_stops ws (Err k) o q f is s = absurd cc
 rest_stops ws (Ok p) o q f is s =
     let same : o ≡ p = cc in
     let size : p.count ≡ f.0 = (let k = f.1 in omega arith) in
-    let there : StopsAt (Operands p.source) (drop p.count ws) q = subst (λ (o : Opened). StopsAt (Operands o.source) (drop o.count ws) q) same s in
-    as_body ws (o.count + q) (subst (λ n. StopsAt AStream ws (n + q)) (sym (ap (λ (o : Opened). o.count) same ∙ size)) (f.3 q (subst (λ n. StopsAt (Operands p.source) (drop n ws) q) size there)))
+    let there : StopsAt (Operands p.source) (drop p.count ws) q =
+    subst (λ (o : Opened). StopsAt (Operands o.source) (drop o.count ws) q) same s in
+    as_body ws (o.count + q) (subst (λ n. StopsAt AStream ws (n + q)) (sym (ap (λ (o : Opened). o.count) same ∙ size))
+    (f.3 q (subst (λ n. StopsAt (Operands p.source) (drop n ws) q) size there)))
 
 -- the words stop in the operands
-pub stops_in_operands : (ws : List Lexeme) (o : Opened) (q : ℕ) → stream_at ws ≡ Ok o → StopsAt (Operands o.source) (drop o.count ws) q → StopsAt (ABody want.Stream) ws (o.count + q)
+pub stops_in_operands : (ws : List Lexeme) (o : Opened) (q : ℕ) → stream_at ws ≡ Ok o
+    → StopsAt (Operands o.source) (drop o.count ws) q → StopsAt (ABody want.Stream) ws (o.count + q)
 stops_in_operands ws o q is s = rest_stops ws (stream_at ws) o q (stream_found ws) is s
 
 -- ---- each body
 
-by_operands : (ws : List Lexeme) (o : Opened) → stream_at ws ≡ Ok o → Operands o.source (drop o.count ws) ⊎ ((q : ℕ) × StopsAt (Operands o.source) (drop o.count ws) q) → ABody want.Stream ws ⊎ ((n : ℕ) × StopsAt (ABody want.Stream) ws n)
+by_operands : (ws : List Lexeme) (o : Opened) → stream_at ws ≡ Ok o
+    → Operands o.source (drop o.count ws) ⊎ ((q : ℕ) × StopsAt (Operands o.source) (drop o.count ws) q)
+    → ABody want.Stream ws ⊎ ((n : ℕ) × StopsAt (ABody want.Stream) ws n)
 by_operands ws o is (inl x) = inl (operands o.source x.0, stream_ok ws o x.0 is x.1)
 by_operands ws o is (inr q) = inr (o.count + q.0, stops_in_operands ws o q.0 is q.1)
 
-by_front : (ws : List Lexeme) (r : Result Opened ℕ) → stream_at ws ≡ r → ABody want.Stream ws ⊎ ((n : ℕ) × StopsAt (ABody want.Stream) ws n)
+by_front : (ws : List Lexeme) (r : Result Opened ℕ) → stream_at ws ≡ r
+    → ABody want.Stream ws ⊎ ((n : ℕ) × StopsAt (ABody want.Stream) ws n)
 by_front ws (Err n) is = inr (n, stops_in_front ws n is)
 by_front ws (Ok o) is = by_operands ws o is (each_operands o.source (drop o.count ws))
 
@@ -84,9 +92,11 @@ plain_from want.Pair ws (operands s es) p x = absurd x
 plain_from y ws (expression e) p x = (e, x)
 
 pub plain_stops : (w : Want) (ws : List Lexeme) (n : ℕ) → IsPlain w → StopsAt Expression ws n → StopsAt (ABody w) ws n
-plain_stops w ws n p s = stop_same Expression (ABody w) ws n (λ m x. (expression x.0, plain_body w m x.0 p x.1)) (λ m b. plain_from w m b.0 p b.1) s
+plain_stops w ws n p s = stop_same Expression (ABody w) ws n (λ m x. (expression x.0, plain_body w m x.0 p x.1))
+    (λ m b. plain_from w m b.0 p b.1) s
 
-by_answer : (w : Want) (ws : List Lexeme) → IsPlain w → Expression ws ⊎ ((n : ℕ) × StopsAt Expression ws n) → ABody w ws ⊎ ((n : ℕ) × StopsAt (ABody w) ws n)
+by_answer : (w : Want) (ws : List Lexeme) → IsPlain w → Expression ws ⊎ ((n : ℕ) × StopsAt Expression ws n)
+    → ABody w ws ⊎ ((n : ℕ) × StopsAt (ABody w) ws n)
 by_answer w ws p (inl x) = inl (expression x.0, plain_body w ws x.0 p x.1)
 by_answer w ws p (inr s) = inr (s.0, plain_stops w ws s.0 p s.1)
 
@@ -102,6 +112,7 @@ pub plain_of : (w : Want) → (w ≡ want.Stream → ⊥) → IsPlain w
 plain_of want.Stream h = absurd (h refl)
 plain_of x h = tt
 
-pub plain_stop : (w : Want) (ws : List Lexeme) (stop : ParseStop) → IsPlain w → IsStop Expression ws stop → IsStop (ABody w) ws stop
+pub plain_stop : (w : Want) (ws : List Lexeme) (stop : ParseStop) → IsPlain w → IsStop Expression ws stop
+    → IsStop (ABody w) ws stop
 plain_stop w ws (At n) p s = plain_stops w ws n p s
 plain_stop w ws NoMemory p s = tt

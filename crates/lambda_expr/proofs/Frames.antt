@@ -1,5 +1,6 @@
 -- What waits for its right operand: how tightly it binds, and what completes it.
-use Rattle.std.proofs.Common.{◌≡◌, ℕ, suc, ◌<◌, ◌≤◌, nat_lt, Bool, true, false, List, [], ◌∷◌, ◌++◌, refl, sym, ◌∙◌, append_assoc, append-nil, arith}
+use Rattle.std.proofs.Common.{◌≡◌, ℕ, suc, ◌<◌, ◌≤◌, nat_lt, Bool, true, false, List, [], ◌∷◌, ◌++◌, refl, sym, ◌∙◌}
+use Rattle.std.proofs.Common.{append_assoc, append-nil, arith}
 use Rattle.std.specs.Prelude.{if◌then◌else◌}
 use Rattle.std.proofs.lemmas.Grind.{common_steps}
 use Rattle.lambda_expr.specs.declared.sign.Sign.{Sign}
@@ -100,7 +101,8 @@ test_above : (a b : ℕ) → nat_lt a b ≡ false → b ≤ a
 test_above a b h = grind (arith, common_steps)
 
 -- a test, and what holds of both branches
-by_test : {A : Type 0} (P : A → Type 0) (b : Bool) (x y : A) → (b ≡ true → P x) → (b ≡ false → P y) → P (if b then x else y)
+by_test : {A : Type 0} (P : A → Type 0) (b : Bool) (x y : A) → (b ≡ true → P x) → (b ≡ false → P y)
+    → P (if b then x else y)
 by_test P true x y h k = h refl
 by_test P false x y h k = k refl
 
@@ -111,20 +113,24 @@ pub record Keeps (n : ℕ) (fs : List Frame) (e : Shape) (t : Top) : Type 0 wher
   pub tight : Binds (wanted t.frames) t.shape
   pub binds : Binds n t.shape
 
-stop : (n : ℕ) (fs : List Frame) (e : Shape) → Ordered fs → Binds (wanted fs) e → Binds n e → Keeps n fs e (record { frames = fs; shape = e })
+stop : (n : ℕ) (fs : List Frame) (e : Shape) → Ordered fs → Binds (wanted fs) e → Binds n e
+    → Keeps n fs e (record { frames = fs; shape = e })
 stop n fs e o t b = record { words = refl; ordered = o; tight = t; binds = b }
 
-pub join_keeps : (n : ℕ) (fs : List Frame) (e : Shape) → n ≤ 12 → Ordered fs → Binds (wanted fs) e → Binds n e → Keeps n fs e (joined n fs e)
+pub join_keeps : (n : ℕ) (fs : List Frame) (e : Shape) → n ≤ 12 → Ordered fs → Binds (wanted fs) e → Binds n e
+    → Keeps n fs e (joined n fs e)
 join_keeps n [] e h o t b = stop n [] e o t b
 join_keeps n (opened p ∷ fs) e h o t b = stop n (opened p ∷ fs) e o t b
 join_keeps n (signed s ∷ fs) e h o t b =
     let k = join_keeps n fs (prefix s e) h o.1 (wanted_high fs, o.0, t) (h, o.0, t) in
     record { words = k.words ∙ simp append_assoc; ordered = k.ordered; tight = k.tight; binds = k.binds }
-join_keeps n (left a s ∷ fs) e h o t b = by_test (Keeps n (left a s ∷ fs) e) (nat_lt (level s) n) _ _ (λ y. stop n (left a s ∷ fs) e o t b) (λ y.
+join_keeps n (left a s ∷ fs) e h o t b =
+    by_test (Keeps n (left a s ∷ fs) e) (nat_lt (level s) n) _ _ (λ y. stop n (left a s ∷ fs) e o t b) (λ y.
     let k = join_keeps n fs (binary s a e) h o.3 (o.0, o.1, o.2, t) (test_above (level s) n y, o.1, o.2, t) in
     record { words = k.words ∙ simp append_assoc; ordered = k.ordered; tight = k.tight; binds = k.binds })
 join_keeps n (question c ∷ fs) e h o t b = stop n (question c ∷ fs) e o t b
-join_keeps n (colon c p ∷ fs) e h o t b = by_test (Keeps n (colon c p ∷ fs) e) (nat_lt 1 n) _ _ (λ y. stop n (colon c p ∷ fs) e o t b) (λ y.
+join_keeps n (colon c p ∷ fs) e h o t b =
+    by_test (Keeps n (colon c p ∷ fs) e) (nat_lt 1 n) _ _ (λ y. stop n (colon c p ∷ fs) e o t b) (λ y.
     let k = join_keeps n fs (ternary c p e) h o.3 (o.0, o.1, o.2, t) (test_above 1 n y, o.1, o.2, t) in
     record { words = k.words ∙ simp append_assoc; ordered = k.ordered; tight = k.tight; binds = k.binds })
 
@@ -132,8 +138,10 @@ join_keeps n (colon c p ∷ fs) e h o t b = by_test (Keeps n (colon c p ∷ fs) 
 pub join_stops : (n : ℕ) (fs : List Frame) (e : Shape) → 2 ≤ n → wanted (joined n fs e).frames ≤ n
 join_stops n (opened o ∷ fs) e h = omega (arith, inside_low o)
 join_stops n (signed s ∷ fs) e h = join_stops n fs (prefix s e) h
-join_stops n (left a s ∷ fs) e h = by_test (λ (t : Top). wanted t.frames ≤ n) (nat_lt (level s) n) _ _ (λ y. test_below (level s) n y) (λ y. join_stops n fs (binary s a e) h)
-join_stops n (colon c p ∷ fs) e h = by_test (λ (t : Top). wanted t.frames ≤ n) (nat_lt 1 n) _ _ (λ y. omega arith) (λ y. join_stops n fs (ternary c p e) h)
+join_stops n (left a s ∷ fs) e h = by_test (λ (t : Top). wanted t.frames ≤ n) (nat_lt (level s) n) _ _
+    (λ y. test_below (level s) n y) (λ y. join_stops n fs (binary s a e) h)
+join_stops n (colon c p ∷ fs) e h = by_test (λ (t : Top). wanted t.frames ≤ n) (nat_lt 1 n) _ _ (λ y. omega arith)
+    (λ y. join_stops n fs (ternary c p e) h)
 join_stops n x e h = omega arith
 
 -- no operator has level 1
@@ -146,7 +154,8 @@ not_two (colon c p ∷ fs) h = omega arith
 not_two (w ∷ fs) h = absurd (omega arith)
 
 -- where an operand of level n is wanted, nothing is joined by level n
-pub stays : (k : ℕ) (fs : List Frame) (e : Shape) → wanted fs ≤ k → k ≤ 11 → 2 ≤ k → joined k fs e ≡ record { frames = fs; shape = e }
+pub stays : (k : ℕ) (fs : List Frame) (e : Shape) → wanted fs ≤ k → k ≤ 11 → 2 ≤ k
+    → joined k fs e ≡ record { frames = fs; shape = e }
 stays k (signed s ∷ fs) e h l m = absurd (omega arith)
 stays k (left a s ∷ fs) e h l m = rw (below_test (level s) k (omega arith)) refl
 stays k (colon c p ∷ fs) e h l m = rw (below_test 1 k (omega arith)) refl
@@ -156,7 +165,8 @@ pub stays_in_call : (fs : List Frame) (e : Shape) → wanted fs ≤ 0 → joined
 stays_in_call (opened o ∷ fs) e h = refl
 stays_in_call x e h = absurd (omega arith)
 
-pub stays_at : (s : Sign) (fs : List Frame) (e : Shape) → is_infix s ≡ true → wanted fs ≤ level s → joined (level s) fs e ≡ record { frames = fs; shape = e }
+pub stays_at : (s : Sign) (fs : List Frame) (e : Shape) → is_infix s ≡ true → wanted fs ≤ level s
+    → joined (level s) fs e ≡ record { frames = fs; shape = e }
 stays_at sign.Comma fs e i h = stays_in_call fs e h
 stays_at sign.Or fs e i h = stays 2 fs e h (omega arith) (omega arith)
 stays_at sign.And fs e i h = stays 3 fs e h (omega arith) (omega arith)
@@ -197,7 +207,8 @@ pub record Taken (s : Sign) (fs : List Frame) : Type 0 where
   pub between : is_infix s ≡ true
   pub low : wanted fs ≤ level s
 
-pub taken : (s : Sign) (fs : List Frame) (e : Shape) → takes s (joined (level s) fs e).frames ≡ true → Taken s (joined (level s) fs e).frames
+pub taken : (s : Sign) (fs : List Frame) (e : Shape) → takes s (joined (level s) fs e).frames ≡ true
+    → Taken s (joined (level s) fs e).frames
 taken sign.Comma fs e h = record { between = refl; low = taken_in_call (joined 0 fs e).frames h }
 taken sign.Or fs e h = record { between = refl; low = join_stops 2 fs e (omega arith) }
 taken sign.And fs e h = record { between = refl; low = join_stops 3 fs e (omega arith) }
@@ -218,8 +229,10 @@ taken sign.Complement fs e h = absurd cc
 taken sign.Not fs e h = absurd cc
 taken x fs e h = record { between = refl; low = join_stops 8 fs e (omega arith) }
 
-pub joins_left : (k : ℕ) (a : Shape) (s : Sign) (fs : List Frame) (e : Shape) → k ≤ level s → joined k (left a s ∷ fs) e ≡ joined k fs (binary s a e)
+pub joins_left : (k : ℕ) (a : Shape) (s : Sign) (fs : List Frame) (e : Shape) → k ≤ level s
+    → joined k (left a s ∷ fs) e ≡ joined k fs (binary s a e)
 joins_left k a s fs e h = rw (above_test (level s) k h) refl
 
-pub joins_colon : (k : ℕ) (c p : Shape) (fs : List Frame) (e : Shape) → k ≤ 1 → joined k (colon c p ∷ fs) e ≡ joined k fs (ternary c p e)
+pub joins_colon : (k : ℕ) (c p : Shape) (fs : List Frame) (e : Shape) → k ≤ 1
+    → joined k (colon c p ∷ fs) e ≡ joined k fs (ternary c p e)
 joins_colon k c p fs e h = rw (above_test 1 k h) refl

@@ -1,5 +1,6 @@
 -- Any words are a lambda, or stop at a place.
-use Rattle.std.proofs.Common.{◌≡◌, ◌≢◌, ◌⊎◌, inl, inr, ℕ, zero, suc, ◌+◌, ◌<◌, ◌≤◌, List, [], ◌∷◌, length, drop, Result, Ok, Err, Option, Some, None, refl, sym, ap, ◌∙◌, ⊎_elim, arith}
+use Rattle.std.proofs.Common.{◌≡◌, ◌≢◌, ◌⊎◌, inl, inr, ℕ, zero, suc, ◌+◌, ◌<◌, ◌≤◌, List, [], ◌∷◌, length, drop, Result}
+use Rattle.std.proofs.Common.{Ok, Err, Option, Some, None, refl, sym, ap, ◌∙◌, ⊎_elim, arith}
 use Rattle.std.proofs.str.Laws.{order}
 use Rattle.lambda_expr.specs.declared.head.HeadMark.{HeadMark}
 use Rattle.lambda_expr.specs.declared.head.HeadMark.TheVariants as mark
@@ -35,14 +36,19 @@ back x = refl
 same_or_not : (m n : HeadMark) → (m ≡ n) ⊎ (m ≢ n)
 same_or_not m n =
     ⊎_elim (λ (lt : code m < code n). inr (λ e. let same = ap code e in absurd (omega arith)))
-    (λ (ge : code n ≤ code m). ⊎_elim (λ (gt : code n < code m). inr (λ e. let same = ap code e in absurd (omega arith))) (λ (le : code m ≤ code n). let same : code m ≡ code n = omega arith in inl (sym (back m) ∙ ap coded same ∙ back n)) (order (code n) (code m)))
+    (λ (ge : code n ≤ code m). ⊎_elim (λ (gt : code n < code m). inr
+    (λ e. let same = ap code e in absurd (omega arith)))
+    (λ (le : code m ≤ code n). let same : code m ≡ code n = omega arith in
+    inl (sym (back m) ∙ ap coded same ∙ back n)) (order (code n) (code m)))
     (order (code m) (code n))
 
 is_mark : (o : Option HeadMark) (m : HeadMark) → (o ≡ Some m) ⊎ (o ≢ Some m)
 is_mark None m = inr (λ e. cc)
-is_mark (Some n) m = ⊎_elim (λ (e : n ≡ m). inl (ap Some e)) (λ (d : n ≢ m). inr (λ e. d (let same : n ≡ m = cc in same))) (same_or_not n m)
+is_mark (Some n) m = ⊎_elim (λ (e : n ≡ m). inl (ap Some e))
+    (λ (d : n ≢ m). inr (λ e. d (let same : n ≡ m = cc in same))) (same_or_not n m)
 
-match_by : (m : HeadMark) (p : List HeadMark) (w : Lexeme) (ws : List Lexeme) → (mark_of w ≡ Some m) ⊎ (mark_of w ≢ Some m) → (n : ℕ) × IsMatched p ws n → (n : ℕ) × IsMatched (m ∷ p) (w ∷ ws) n
+match_by : (m : HeadMark) (p : List HeadMark) (w : Lexeme) (ws : List Lexeme)
+    → (mark_of w ≡ Some m) ⊎ (mark_of w ≢ Some m) → (n : ℕ) × IsMatched p ws n → (n : ℕ) × IsMatched (m ∷ p) (w ∷ ws) n
 match_by m p w ws (inl e) later = (suc later.0, (e, later.1))
 match_by m p w ws (inr d) later = (zero, d)
 
@@ -60,7 +66,8 @@ each_trial (p ∷ ps) ws =
 abbrev Answered : Want → List Lexeme → Type 0
 Answered w ws = ALambda w ws ⊎ ((n : ℕ) × StopsAt (ALambda w) ws n)
 
-by_body : (w : Want) (ws : List Lexeme) (r : Result ℕ ℕ) (n : ℕ) → AreTried (heads w) ws r → r ≡ Ok n → ABody w (drop n ws) ⊎ ((k : ℕ) × StopsAt (ABody w) (drop n ws) k) → Answered w ws
+by_body : (w : Want) (ws : List Lexeme) (r : Result ℕ ℕ) (n : ℕ) → AreTried (heads w) ws r → r ≡ Ok n
+    → ABody w (drop n ws) ⊎ ((k : ℕ) × StopsAt (ABody w) (drop n ws) k) → Answered w ws
 by_body w ws r n t is (inl x) = inl (x.0, lambda_of w ws r n x.0 t is x.1)
 by_body w ws r n t is (inr s) = inr (n + s.0, stops_in_body w ws r n s.0 t is s.1)
 

@@ -17,7 +17,8 @@ large_or_fits text ts z s t = let e : Some z ≡ None = sym s.value ∙ t.outsid
 large_or_stops : (text : List ℕ) (ts : List Token) (at : ℕ) → IsTooLarge text ts → StopsAtColumn text ts at → ⊥
 large_or_stops text ts at t s = s.stops.outside t.number
 
-pub same_fault : (text : List ℕ) (ts : List Token) (f g : ReadFault) → IsNumberRefused text ts f → IsNumberRefused text ts g → f ≡ g
+pub same_fault : (text : List ℕ) (ts : List Token) (f g : ReadFault) → IsNumberRefused text ts f
+    → IsNumberRefused text ts g → f ≡ g
 same_fault text ts (fault.Syntax at) (fault.Syntax to) h k =
     let place = one_place ANumber (words_of text ts) h.place k.place h.stops k.stops in
     ap fault.Syntax (h.here ∙ ap (column text ts) place ∙ sym k.here)
@@ -33,7 +34,8 @@ same_fault text ts fault.UnknownName g h k = absurd h
 same_fault text ts fault.TooDeep g h k = absurd h
 same_fault text ts fault.NoMemory g h k = absurd h
 
-pub never_both : (text : List ℕ) (ts : List Token) (z : ℤ) (f : ReadFault) → SpellsNumber text ts z → IsNumberRefused text ts f → ⊥
+pub never_both : (text : List ℕ) (ts : List Token) (z : ℤ) (f : ReadFault) → SpellsNumber text ts z
+    → IsNumberRefused text ts f → ⊥
 never_both text ts z (fault.Syntax at) s h = h.stops.outside s.number
 never_both text ts z fault.LiteralTooLarge s h = large_or_fits text ts z s h
 never_both text ts z x s h = h

@@ -1,5 +1,6 @@
 -- Where words stop, for a grammar that is another one after some words.
-use Rattle.std.proofs.Common.{◌≡◌, inl, inr, ◌⊎◌, ℕ, suc, ◌+◌, ◌<◌, List, [], ◌∷◌, ◌++◌, length, take, refl, sym, ap, subst, ◌∙◌, append_assoc, arith}
+use Rattle.std.proofs.Common.{◌≡◌, inl, inr, ◌⊎◌, ℕ, suc, ◌+◌, ◌<◌, List, [], ◌∷◌, ◌++◌, length, take, refl, sym, ap}
+use Rattle.std.proofs.Common.{subst, ◌∙◌, append_assoc, arith}
 use Rattle.std.proofs.lemmas.List.{take_all}
 use Rattle.lambda_expr.specs.Stops.{Begins, StopsAt}
 
@@ -18,7 +19,8 @@ length_more [] w b = omega arith
 length_more (v ∷ a) w b = let k = length_more a w b in omega arith
 
 -- no text begins with the words up to and with this one
-pub stop_at : {W : Type 0} (G : List W → Type 0) (a : List W) (w : W) (b : List W) → Begins G a → ((m : List W) → G (a ++ w ∷ m) → ⊥) → StopsAt G (a ++ w ∷ b) (length a)
+pub stop_at : {W : Type 0} (G : List W → Type 0) (a : List W) (w : W) (b : List W) → Begins G a
+    → ((m : List W) → G (a ++ w ∷ m) → ⊥) → StopsAt G (a ++ w ∷ b) (length a)
 stop_at {W} G a w b begins dead =
     record {
       within = omega (arith, length_more a w b);
@@ -37,7 +39,8 @@ stop_end G a begins dead = record {
 }
 
 -- a grammar under another name
-pub stop_same : {W : Type 0} (G H : List W → Type 0) (ws : List W) (n : ℕ) → ((m : List W) → G m → H m) → ((m : List W) → H m → G m) → StopsAt G ws n → StopsAt H ws n
+pub stop_same : {W : Type 0} (G H : List W → Type 0) (ws : List W) (n : ℕ) → ((m : List W) → G m → H m)
+    → ((m : List W) → H m → G m) → StopsAt G ws n → StopsAt H ws n
 stop_same G H ws n to from s = record {
   within = s.within;
   outside = λ h. s.outside (from ws h);
@@ -46,7 +49,8 @@ stop_same G H ws n to from s = record {
 }
 
 -- one word, and then another grammar
-pub stop_after : {W : Type 0} (G H : List W → Type 0) (w : W) (b : List W) (n : ℕ) → ((m : List W) → G (w ∷ m) → H m) → ((m : List W) → H m → G (w ∷ m)) → StopsAt H b n → StopsAt G (w ∷ b) (suc n)
+pub stop_after : {W : Type 0} (G H : List W → Type 0) (w : W) (b : List W) (n : ℕ) → ((m : List W) → G (w ∷ m) → H m)
+    → ((m : List W) → H m → G (w ∷ m)) → StopsAt H b n → StopsAt G (w ∷ b) (suc n)
 stop_after G H w b n to from s =
     let low = s.within in
     let next : suc n + 1 ≡ suc (n + 1) = omega arith in
@@ -54,11 +58,13 @@ stop_after G H w b n to from s =
       within = omega arith;
       outside = λ g. s.outside (to b g);
       begins = (s.begins.0, from _ s.begins.1);
-      stops = λ lt x. s.stops (omega arith) (x.0, to (take (n + 1) b ++ x.0) (subst (λ k. G (take k (w ∷ b) ++ x.0)) next x.1));
+      stops = λ lt x. s.stops (omega arith)
+          (x.0, to (take (n + 1) b ++ x.0) (subst (λ k. G (take k (w ∷ b) ++ x.0)) next x.1));
     }
 
 -- some words, and then another grammar
-pub stop_after_all : {W : Type 0} (G H : List W → Type 0) (a b : List W) (n : ℕ) → ((m : List W) → G (a ++ m) → H m) → ((m : List W) → H m → G (a ++ m)) → StopsAt H b n → StopsAt G (a ++ b) (length a + n)
+pub stop_after_all : {W : Type 0} (G H : List W → Type 0) (a b : List W) (n : ℕ) → ((m : List W) → G (a ++ m) → H m)
+    → ((m : List W) → H m → G (a ++ m)) → StopsAt H b n → StopsAt G (a ++ b) (length a + n)
 stop_after_all {W} G H [] b n to from s =
     let same : n ≡ 0 + n = omega arith in
     subst (StopsAt G b) same (record {
@@ -69,14 +75,19 @@ stop_after_all {W} G H [] b n to from s =
     })
 stop_after_all {W} G H (w ∷ a) b n to from s =
     let same : suc (length a + n) ≡ suc (length a) + n = omega arith in
-    subst (StopsAt G (w ∷ (a ++ b))) same (stop_after G (λ m. G (w ∷ m)) w (a ++ b) (length a + n) (λ m g. g) (λ m g. g) (stop_after_all (λ m. G (w ∷ m)) H a b n to from s))
+    subst (StopsAt G (w ∷ (a ++ b))) same
+    (stop_after G (λ m. G (w ∷ m)) w (a ++ b) (length a + n) (λ m g. g) (λ m g. g)
+    (stop_after_all (λ m. G (w ∷ m)) H a b n to from s))
 
-levi_on : {W : Type 0} (x y : W) (a b c d : List W) → x ≡ y → ((u : List W) × (a ≡ c ++ u) × (d ≡ u ++ b)) ⊎ ((v : List W) × (c ≡ a ++ v) × (b ≡ v ++ d)) → ((u : List W) × (x ∷ a ≡ y ∷ c ++ u) × (d ≡ u ++ b)) ⊎ ((v : List W) × (y ∷ c ≡ x ∷ a ++ v) × (b ≡ v ++ d))
+levi_on : {W : Type 0} (x y : W) (a b c d : List W) → x ≡ y
+    → ((u : List W) × (a ≡ c ++ u) × (d ≡ u ++ b)) ⊎ ((v : List W) × (c ≡ a ++ v) × (b ≡ v ++ d))
+    → ((u : List W) × (x ∷ a ≡ y ∷ c ++ u) × (d ≡ u ++ b)) ⊎ ((v : List W) × (y ∷ c ≡ x ∷ a ++ v) × (b ≡ v ++ d))
 levi_on x y a b c d one (inl p) = inl (p.0, let k = p.1 in cc, p.2)
 levi_on x y a b c d one (inr p) = inr (p.0, let k = p.1 in cc, p.2)
 
 -- equal words in two parts each
-pub levi : {W : Type 0} (a b c d : List W) → a ++ b ≡ c ++ d → ((x : List W) × (a ≡ c ++ x) × (d ≡ x ++ b)) ⊎ ((y : List W) × (c ≡ a ++ y) × (b ≡ y ++ d))
+pub levi : {W : Type 0} (a b c d : List W) → a ++ b ≡ c ++ d
+    → ((x : List W) × (a ≡ c ++ x) × (d ≡ x ++ b)) ⊎ ((y : List W) × (c ≡ a ++ y) × (b ≡ y ++ d))
 levi [] b c d h = inr (c, refl, h)
 levi (x ∷ a) b [] d h = inl (x ∷ a, refl, sym h)
 levi {W} (x ∷ a) b (y ∷ c) d h =

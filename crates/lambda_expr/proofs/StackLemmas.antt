@@ -10,7 +10,8 @@ not_empty (y ∷ xs) x h = cc
 -- the elements before the last one, and the last one
 snoc_both : {A : Type 0} (xs ys : List A) (x y : A) → xs ++ x ∷ [] ≡ ys ++ y ∷ [] → (xs ≡ ys) × (x ≡ y)
 snoc_both xs ys x y h =
-    let e : x ∷ reverse xs ≡ y ∷ reverse ys = sym (reverse-append xs (x ∷ [])) ∙ ap reverse h ∙ reverse-append ys (y ∷ []) in
+    let e : x ∷ reverse xs ≡ y ∷ reverse ys =
+    sym (reverse-append xs (x ∷ [])) ∙ ap reverse h ∙ reverse-append ys (y ∷ []) in
     let rest : reverse xs ≡ reverse ys = cc in
     (sym (reverse-reverse xs) ∙ ap reverse rest ∙ reverse-reverse ys, cc)
 

@@ -12,7 +12,8 @@ pub length-words_of : (text : List ℕ) (ts : List Token) → length (words_of t
 length-words_of text [] = refl
 length-words_of text (t ∷ ts) = ap suc (length-words_of text ts)
 
-pub get_or-words_of : (text : List ℕ) (ts : List Token) (i : ℕ) (d : Token) → i < length ts → get_or (words_of text ts) i bad ≡ word_of text (get_or ts i d)
+pub get_or-words_of : (text : List ℕ) (ts : List Token) (i : ℕ) (d : Token) → i < length ts
+    → get_or (words_of text ts) i bad ≡ word_of text (get_or ts i d)
 get_or-words_of text [] i d h = absurd (omega arith)
 get_or-words_of text (t ∷ ts) zero d h = refl
 get_or-words_of text (t ∷ ts) (suc i) d h = let k : i < length ts = omega arith in get_or-words_of text ts i d k
@@ -27,8 +28,11 @@ named_bytes kind.Name bytes p h = cc
 named_bytes x bytes p h = cc
 
 -- the word at a place, from its kind and its bytes
-pub word_there : (text : List ℕ) (ts : List Token) (i : ℕ) (d : Token) (k : TokenKind) (bytes : List ℕ) → i < length ts → k ≡ (get_or ts i d).kind → bytes ≡ token_text text (get_or ts i d) → get_or (words_of text ts) i bad ≡ word_for k bytes
-word_there text ts i d k bytes lt same is = get_or-words_of text ts i d lt ∙ sym (ap (λ k. word_for k bytes) same ∙ ap (word_for (get_or ts i d).kind) is)
+pub word_there : (text : List ℕ) (ts : List Token) (i : ℕ) (d : Token) (k : TokenKind) (bytes : List ℕ) → i < length ts
+    → k ≡ (get_or ts i d).kind → bytes ≡ token_text text (get_or ts i d)
+    → get_or (words_of text ts) i bad ≡ word_for k bytes
+word_there text ts i d k bytes lt same is =
+    get_or-words_of text ts i d lt ∙ sym (ap (λ k. word_for k bytes) same ∙ ap (word_for (get_or ts i d).kind) is)
 
 pub past_words : (text : List ℕ) (ts : List Token) (i : ℕ) → length ts ≤ i → get_or (words_of text ts) i bad ≡ bad
 past_words text [] i h = refl

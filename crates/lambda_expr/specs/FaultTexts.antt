@@ -1,7 +1,8 @@
 -- Design: the text of each fault.
 use Rattle.std.specs.Prelude.{ℕ, ◌++◌, List, codes, decimal}
 use Rattle.lambda_expr.specs.declared.fault.ReadFault.{ReadFault}
-use Rattle.lambda_expr.specs.declared.fault.ReadFault.TheVariants.{Syntax, WrongType, UnknownName, TooDeep, LiteralTooLarge, NoMemory}
+use Rattle.lambda_expr.specs.declared.fault.ReadFault.TheVariants.{Syntax, WrongType, UnknownName, TooDeep}
+use Rattle.lambda_expr.specs.declared.fault.ReadFault.TheVariants.{LiteralTooLarge, NoMemory}
 
 -- the bytes of the message
 abbrev pub read_fault_text : ReadFault → List ℕ

@@ -7,7 +7,8 @@ use Rattle.lambda_expr.specs.Lexemes.{lexemes_from}
 
 -- the lexemes of the whole text by its first two names, from `from` up to `to`
 abbrev pub part_of : Inside → List Lexeme
-part_of l = slice_range (lexemes_from l.cells (option_copied l.first) (option_copied l.second) 0 (words_in l.text.now)) l.from l.to
+part_of l = slice_range (lexemes_from l.cells (option_copied l.first) (option_copied l.second) 0 (words_in l.text.now))
+    l.from l.to
 
 pub record IsPart (l : Inside) : Type 0 where
   pub in_order : l.from ≤ l.to

@@ -1,5 +1,6 @@
 -- Meaning: what the words of a text are to the grammar of lambdas.
-use Rattle.std.specs.Prelude.{◌≡◌, ℕ, suc, ◌-◌, ◌^◌, min, Bool, true, false, ◌&&◌, ◌||◌, if◌then◌else◌, List, [], ◌∷◌, codes, drop, take, length}
+use Rattle.std.specs.Prelude.{◌≡◌, ℕ, suc, ◌-◌, ◌^◌, min, Bool, true, false, ◌&&◌, ◌||◌, if◌then◌else◌, List, [], ◌∷◌}
+use Rattle.std.specs.Prelude.{codes, drop, take, length}
 use Rattle.std.specs.Prelude.{slice_index_or, Option, Some, None}
 use Rattle.stream_tokens.specs.declared.symbol.Symbol.{Symbol}
 use Rattle.stream_tokens.specs.declared.symbol.Symbol.TheVariants as symbol
@@ -113,7 +114,8 @@ first_name cells taken (bad ∷ ws) = first_name cells taken ws
 -- the lexemes of the words from a place on, if these are the first two names that a parameter may have
 abbrev pub lexemes_from : Bool → Option (List ℕ) → Option (List ℕ) → ℕ → List Word → List Lexeme
 lexemes_from cells first second at [] = []
-lexemes_from cells first second at (w ∷ ws) = lexeme_of cells first second at w ∷ lexemes_from cells first second (suc at) ws
+lexemes_from cells first second at (w ∷ ws) =
+    lexeme_of cells first second at w ∷ lexemes_from cells first second (suc at) ws
 
 -- the lexemes of words, by the first two different names among them that a parameter may have
 abbrev pub lexemes_in : Bool → List Word → List Lexeme

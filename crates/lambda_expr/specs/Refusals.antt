@@ -1,6 +1,7 @@
 -- Meaning: which texts are lambdas, and what each other text is refused for.
 pub use Rattle.stream_tokens.specs.CutTexts.{column}
-use Rattle.std.specs.Prelude.{Bool, false, ◌≡◌, ℕ, suc, max, ◌<◌, ◌≤◌, not, nat_lt, if◌then◌else◌, ◌⊎◌, List, length, Option, Some}
+use Rattle.std.specs.Prelude.{Bool, false, ◌≡◌, ℕ, suc, max, ◌<◌, ◌≤◌, not, nat_lt, if◌then◌else◌, ◌⊎◌, List, length}
+use Rattle.std.specs.Prelude.{Option, Some}
 use Rattle.std.specs.Prelude.{None, Result, Ok, Err}
 use Rattle.stream_tokens.specs.declared.token.Token.{Token}
 use Rattle.stream_tokens.specs.Tokens.{AreTokensOf}

@@ -5,11 +5,11 @@ ghost use Rattle.lambda_expr.specs.Codes.{IsStop};
 ghost use Rattle.lambda_expr.specs.Heads.{ABody};
 ghost use Rattle.std.specs.Prelude.{IfErr, IfOk};
 
-use super::lexeme::Lexemes;
-use super::parse::{ParseStop, Parsed, parse};
-use super::source::{StreamSource, parse_operands, parse_source};
-use super::step::ParseStep;
-use super::want::Want;
+use crate::lexeme::Lexemes;
+use crate::parse::{ParseStop, Parsed, parse};
+use crate::source::{StreamSource, parse_operands, parse_source};
+use crate::step::ParseStep;
+use crate::want::Want;
 use std::alloc::Global;
 
 /// A body in steps.
@@ -20,7 +20,7 @@ pub(crate) enum BodySteps {
     Stream(StreamSource, Vec<Vec<ParseStep>>),
 }
 
-// Reads a body that gives a stream.
+/// Reads a body that gives a stream.
 fn parse_stream(alloc: Global, words: &Lexemes) -> Parsed<BodySteps>
     ensures ok { IfOk result (λ body. IsBodyOf Want.Stream words.now body) }
     ensures stops { IfErr result (λ stop. IsStop (ABody Want.Stream) words.now stop) }

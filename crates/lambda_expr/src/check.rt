@@ -9,10 +9,10 @@ ghost use Rattle.lambda_expr.specs.Summaries.{summary_step, summary_steps, terna
 ghost use Rattle.lambda_expr.specs.declared.check.Summary.{Summary as found};
 ghost use Rattle.std.specs.Prelude.{◌≡◌, IfOk, List, [], ◌∷◌, ◌++◌};
 
-use super::operation::Function;
-use super::sign::Sign;
-use super::step::{Opening, ParseStep};
-use super::table::{constant_of, function_of};
+use crate::operation::Function;
+use crate::sign::Sign;
+use crate::step::{Opening, ParseStep};
+use crate::table::{constant_of, function_of};
 use lambda_values::{BinaryOperator, PairForm};
 use std::alloc::{AllocError, Global};
 
@@ -58,7 +58,7 @@ pub(crate) const NOTHING: Summary = Summary {
     form: BodyForm::Single(PairForm::Other),
 };
 
-// A name by itself.
+/// A name by itself.
 fn name_form(number: usize) -> BodyForm
     ensures { result ≡ name_form number }
 {
@@ -69,7 +69,7 @@ fn name_form(number: usize) -> BodyForm
     }
 }
 
-// A sign between the two parameters.
+/// A sign between the two parameters.
 fn sign_form(sign: Sign) -> BodyForm
     ensures { result ≡ sign_form sign }
 {
@@ -93,7 +93,7 @@ fn binary_form(sign: Sign, left: BodyForm, right: BodyForm) -> BodyForm
     }
 }
 
-// A method of the two parameters.
+/// A method of the two parameters.
 fn method_form(function: Option<Function>) -> BodyForm
     ensures { result ≡ method_form function }
 {
@@ -139,7 +139,7 @@ impl Literals {
         }
     }
 
-    // The numbers after a sign.
+    /// The numbers after a sign.
     fn signed(self, sign: Sign) -> Literals
         ensures { result ≡ signed sign self }
     {
@@ -150,7 +150,7 @@ impl Literals {
     }
 }
 
-// One more, up to 65.
+/// One more, up to 65.
 fn deeper(depth: u32) -> u32
     ensures { result ≡ deeper depth }
 {
@@ -205,7 +205,7 @@ fn ternary(condition: Summary, chosen: Summary, other: Summary) -> Summary
     }
 }
 
-// Whether a call is of a method that there is.
+/// Whether a call is of a method that there is.
 fn is_known(opening: Opening) -> bool
     ensures { result ≡ is_known opening }
 {
@@ -226,7 +226,7 @@ fn enclose(opening: Opening, operand: Summary) -> Summary
     }
 }
 
-// What a step makes of the operands on top.
+/// What a step makes of the operands on top.
 fn follow(stack: &mut Vec<Summary>, parameters: usize, step: ParseStep) -> Summary
     ensures { (ss : List found) → stack.old.items ≡ stacked ss
         → stack.new.items ++ result ∷ [] ≡ stacked (summary_step parameters step ss) }

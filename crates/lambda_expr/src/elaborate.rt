@@ -7,14 +7,14 @@ ghost use Rattle.lambda_expr.specs.Typing.{Typed as shape_type, called_with, lon
 ghost use Rattle.lambda_values.specs.Term.{long_of};
 ghost use Rattle.std.specs.Prelude.{◌≡◌, IfOk, List, [], ◌∷◌, ◌++◌};
 
-use super::making::{
+use crate::making::{
     binary, cell, choose_long, choose_truth, compare, connect, decimal_cell, number, reference,
     unary,
 };
-use super::operation::{Function, SignOperation};
-use super::sign::Sign;
-use super::step::{Opening, ParseStep};
-use super::table::{constant_of, function_of};
+use crate::operation::{Function, SignOperation};
+use crate::sign::Sign;
+use crate::step::{Opening, ParseStep};
+use crate::table::{constant_of, function_of};
 use lambda_values::{
     BoolChoice, BoolExpr, BoolPair, LongChoice, LongExpr, LongPair, UnaryOperator,
 };
@@ -35,7 +35,7 @@ pub(crate) enum TypedOperand {
 /// An operand, or an allocation failed.
 pub(crate) type Elaborated = Result<TypedOperand, AllocError>;
 
-// The operand on top, or none of any type.
+/// The operand on top, or none of any type.
 fn pop(stack: &mut Vec<TypedOperand>) -> TypedOperand
     ensures { (ts : List shape_type) → operands_of stack.old.items ≡ stacked ts
         → (typed_of result ≡ top_typed ts) × (operands_of stack.new.items ≡ stacked (below ts)) }
@@ -46,7 +46,7 @@ fn pop(stack: &mut Vec<TypedOperand>) -> TypedOperand
     }
 }
 
-// A sign before an operand.
+/// A sign before an operand.
 fn prefix(alloc: Global, sign: Sign, operand: TypedOperand) -> Elaborated
     ensures { IfOk result (λ o. typed_of o ≡ prefixed sign (typed_of operand)) }
 {
@@ -65,7 +65,7 @@ fn prefix(alloc: Global, sign: Sign, operand: TypedOperand) -> Elaborated
     }
 }
 
-// Two numbers, and what stands between them.
+/// Two numbers, and what stands between them.
 fn on_longs(alloc: Global, operation: SignOperation, pair: LongPair) -> Elaborated
     ensures { IfOk result (λ o. typed_of o
         ≡ operated (long (long_of pair.left)) (long (long_of pair.right)) operation) }
@@ -78,7 +78,7 @@ fn on_longs(alloc: Global, operation: SignOperation, pair: LongPair) -> Elaborat
     }
 }
 
-// Two operands, and what stands between them.
+/// Two operands, and what stands between them.
 fn operate(
     alloc: Global,
     operation: SignOperation,
@@ -105,7 +105,7 @@ fn operate(
     }
 }
 
-// `c ? p : q`.
+/// `c ? p : q`.
 fn select(
     alloc: Global,
     condition: TypedOperand,
@@ -145,7 +145,7 @@ fn select(
     }
 }
 
-// A method and its operands.
+/// A method and its operands.
 fn call(alloc: Global, function: Option<Function>, operand: TypedOperand) -> Elaborated
     ensures { IfOk result (λ o. typed_of o ≡ called_with function (typed_of operand)) }
 {
@@ -160,7 +160,7 @@ fn call(alloc: Global, function: Option<Function>, operand: TypedOperand) -> Ela
     }
 }
 
-// What a step makes of the operands on top.
+/// What a step makes of the operands on top.
 fn follow(
     alloc: Global,
     text: &CutText,

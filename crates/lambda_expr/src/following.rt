@@ -5,13 +5,13 @@ ghost use Rattle.lambda_expr.specs.declared.step.ParseStep.{ParseStep as step};
 ghost use Rattle.lambda_expr.specs.Reader.{takes, follows};
 ghost use Rattle.lambda_expr.specs.Codes.{top_of, IsCoded, Turns};
 
-use super::lexeme::Lexeme;
-use super::parse::{Held, ParseStop, Parsed, Pending, join};
-use super::sign::Sign;
-use super::stack::Stack;
-use super::step::{Opening, ParseStep};
+use crate::lexeme::Lexeme;
+use crate::parse::{Held, ParseStop, Parsed, Pending, join};
+use crate::sign::Sign;
+use crate::stack::Stack;
+use crate::step::{Opening, ParseStep};
 
-// Whether a sign may follow an operand here: a comma only where a call is innermost.
+/// Whether a sign may follow an operand here: a comma only where a call is innermost.
 fn takes(sign: Sign, stack: &Stack) -> bool
     ensures { (ss : List step) → result ≡ takes sign (top_of stack.now ss).frames }
 {

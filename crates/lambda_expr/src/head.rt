@@ -5,9 +5,9 @@ ghost use Rattle.lambda_expr.specs.Heads.{heads, mark_of, parameters};
 ghost use Rattle.std.specs.Prelude.{◌≡◌};
 
 use self::HeadMark::{Arrow, Close, Comma, LowerLong, Open, Parameter};
-use super::lexeme::{Lexeme, Lexemes, Name};
-use super::sign::Sign;
-use super::want::Want;
+use crate::lexeme::{Lexeme, Lexemes, Name};
+use crate::sign::Sign;
+use crate::want::Want;
 
 /// What a word of a head has to be.
 #[derive(Clone, Copy, PartialEq, Eq)]
@@ -45,7 +45,7 @@ const TYPED_PAIR: [HeadMark; 8] = [
     Arrow,
 ];
 
-// What a word is in a head: a name is a parameter by its number.
+/// What a word is in a head: a name is a parameter by its number.
 fn mark_of(word: Lexeme) -> Option<HeadMark>
     ensures { result ≡ mark_of word }
 {
@@ -70,7 +70,7 @@ pub(crate) fn parameters(want: Want) -> usize
     }
 }
 
-// How many words fit the pattern, from the first on.
+/// How many words fit the pattern, from the first on.
 fn matched(pattern: &[HeadMark], words: &Lexemes) -> usize
     ensures { IsMatched pattern.now words.now result }
 {
@@ -82,7 +82,7 @@ fn matched(pattern: &[HeadMark], words: &Lexemes) -> usize
     pattern.len()
 }
 
-// The length of the pattern if the words begin with it, else what another one gives, at least as far.
+/// The length of the pattern if the words begin with it, else what another one gives, at least as far.
 fn tried(pattern: &[HeadMark], words: &Lexemes, other: Result<usize, usize>) -> Result<usize, usize>
     ensures { IsTried pattern.now words.now other result }
 {

@@ -7,10 +7,10 @@ ghost use Rattle.lambda_expr.specs.Numerals.{numeral_value};
 ghost use Rattle.lambda_expr.specs.CodeWords.{word_of, words_in};
 ghost use Rattle.std.specs.Prelude.{◌≡◌, ◌≤◌, ◌-◌, ◌^◌, drop, get_or, length, min, option_copied, take};
 
-use super::number::{may_stand, numeral_value};
-use super::sign::Sign;
-use super::table::{Member, member_of};
-use super::word::{Word, word_at};
+use crate::number::{may_stand, numeral_value};
+use crate::sign::Sign;
+use crate::table::{Member, member_of};
+use crate::word::{Word, word_at};
 use job_names::places_of;
 use std::marker::Model;
 use stream_tokens::{CutText, Symbol};
@@ -76,7 +76,7 @@ pub(crate) enum Lexeme {
     Other,
 }
 
-// Which of the names of a text this one is, if these are the first two: 0, 1, or 2 for any other.
+/// Which of the names of a text this one is, if these are the first two: 0, 1, or 2 for any other.
 fn order_of(first: Option<&[u8]>, second: Option<&[u8]>, name: &[u8]) -> usize
     ensures { result ≡ order_of (option_copied first.entry) (option_copied second.entry) name.now }
 {
@@ -89,7 +89,7 @@ fn order_of(first: Option<&[u8]>, second: Option<&[u8]>, name: &[u8]) -> usize
     }
 }
 
-// A name of a text, if these are the first two that a parameter may have.
+/// A name of a text, if these are the first two that a parameter may have.
 fn name_of(cells: bool, first: Option<&[u8]>, second: Option<&[u8]>, name: &[u8]) -> Name
     ensures { result ≡ name_of cells (option_copied first.entry) (option_copied second.entry) name.now }
 {
@@ -135,7 +135,7 @@ fn symbol_lexeme(symbol: Symbol) -> Lexeme
 }
 
 impl Numeral {
-    // The numeral that a word is.
+    /// The numeral that a word is.
     fn of(number: &[u8]) -> Numeral
         ensures numeral { result ≡ numeral_of number.now }
         ensures value { value_in result ≡ min (numeral_value number.now) (2 ^ 64 - 1) }
@@ -167,7 +167,7 @@ fn number_lexeme(number: &[u8]) -> Lexeme
     }
 }
 
-// The lexeme of the word at a place, if these are the first two names that a parameter may have.
+/// The lexeme of the word at a place, if these are the first two names that a parameter may have.
 fn lexeme_of(
     cells: bool,
     first: Option<&[u8]>,
@@ -188,7 +188,7 @@ fn lexeme_of(
     }
 }
 
-// Whether no parameter has this name.
+/// Whether no parameter has this name.
 fn is_reserved(cells: bool, name: &[u8]) -> bool
     ensures { result ≡ is_reserved cells name.now }
 {
@@ -201,7 +201,7 @@ fn is_reserved(cells: bool, name: &[u8]) -> bool
         || name == b"false".as_slice()
 }
 
-// The first name of a text that a parameter may have, apart from one that is taken.
+/// The first name of a text that a parameter may have, apart from one that is taken.
 fn first_name<'a>(cells: bool, text: &CutText<'a>, taken: Option<&[u8]>) -> Option<&'a [u8]>
     ensures { option_copied result ≡ first_name cells (option_copied taken.entry) (words_in text.now) }
 {
@@ -304,7 +304,7 @@ impl<'a> Lexemes<'a> {
     }
 }
 
-// The bytes between the quotes of a string.
+/// The bytes between the quotes of a string.
 fn between_quotes(string: &[u8]) -> &[u8]
     ensures { result.now ≡ between_quotes string.now }
 {
@@ -314,7 +314,7 @@ fn between_quotes(string: &[u8]) -> &[u8]
     }
 }
 
-// The name of a reference, without its `$`, or that in a string; no bytes of another word.
+/// The name of a reference, without its `$`, or that in a string; no bytes of another word.
 fn name_after_sign<'a>(word: Word<'a>) -> &'a [u8]
     ensures { result.now ≡ reference_name (word_of word.entry) }
 {

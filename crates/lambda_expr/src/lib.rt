@@ -14,6 +14,9 @@
 //! Begin with `specs/Grammar.antt` and `specs/Refusals.antt`, then `read.rt` and `parse.rt`.
 //!
 //! Not promised: that memory is there. Reading recurses nowhere, and what it gives is at most 64 deep.
+//!
+//! Tested: `refusals.rt` of `test_engine`; `batches.rt`, `calls.rt`, `decimal_jobs.rt`, `full_sinks.rt`, `lambdas.rt`,
+//! `messages.rt`, `random.rt` of `test_low`; runs of the programs in `tests`.
 #![tactic(auto)]
 
 mod body;

@@ -9,8 +9,8 @@ ghost use Rattle.lambda_values.specs.Wrap.{wrap};
 ghost use Rattle.job_names.specs.ColumnKeys.{key_of};
 ghost use Rattle.std.specs.Prelude.{◌≡◌, IfOk, pos};
 
-use super::elaborate::{Elaborated, TypedOperand};
-use super::lexeme::reference_name;
+use crate::elaborate::{Elaborated, TypedOperand};
+use crate::lexeme::reference_name;
 use job_names::key_of;
 use lambda_values::{
     BinaryOperator, BoolChoice, BoolExpr, BoolPair, Comparison, Connective, LongChoice, LongExpr,

@@ -15,8 +15,8 @@ ghost use Rattle.std.specs.Prelude.{min, option_map};
 ghost use Rattle.stream_tokens.specs.CutTexts.{column};
 ghost use Rattle.stream_tokens.specs.Tokens.{StandInOrder};
 
-use super::fault::ReadFault;
-use super::word::{Word, is_dot, is_minus, is_owner, word_at, word_for};
+use crate::fault::ReadFault;
+use crate::word::{Word, is_dot, is_minus, is_owner, word_at, word_for};
 use stream_tokens::{CutText, Token};
 
 /// Whether a number of these bytes may be in a grammar: two or more digits don't begin with 0, since a number like that

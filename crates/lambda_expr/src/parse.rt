@@ -9,11 +9,11 @@ ghost use Rattle.lambda_expr.specs.Codes.{reduced, state_of, top_of, IsCoded, Is
 ghost use Rattle.lambda_expr.specs.Codes.{frames_of, run, ArePostfix, IsStop};
 ghost use Rattle.lambda_expr.specs.declared.parse.ParseStop.TheVariants.{NoMemory};
 
-use super::following::follow;
-use super::lexeme::{ClassName, Lexeme, Lexemes, Name, Numeral};
-use super::sign::Sign;
-use super::stack::Stack;
-use super::step::{Opening, ParseStep};
+use crate::following::follow;
+use crate::lexeme::{ClassName, Lexeme, Lexemes, Name, Numeral};
+use crate::sign::Sign;
+use crate::stack::Stack;
+use crate::step::{Opening, ParseStep};
 use std::alloc::{AllocError, AllocFailed, Global};
 
 /// What waits for the operand to its right. Its other operands were written already.
@@ -78,7 +78,7 @@ impl<T: Drop> From<AllocFailed<T>> for ParseStop {
     }
 }
 
-// The step that what waits becomes before a sign of this level, if it binds as tightly.
+/// The step that what waits becomes before a sign of this level, if it binds as tightly.
 fn reduced(least: u32, top: Pending) -> Option<ParseStep>
     ensures { result ≡ reduced least top }
 {
@@ -122,7 +122,7 @@ pub(crate) fn join(stack: &mut Stack, steps: &mut Vec<ParseStep>, least: u32) ->
     Ok(())
 }
 
-// One more word where an operand is wanted.
+/// One more word where an operand is wanted.
 fn start(stack: &mut Stack, steps: &mut Vec<ParseStep>, word: Lexeme, at: usize) -> Parsed<Held>
     requires { IsCoded stack.old steps.old.items Held.Nothing }
     ensures { Turns (starts (frames_of stack.old (run [] steps.old.items)) word) at stack.new steps.new.items result }
@@ -162,7 +162,7 @@ fn start(stack: &mut Stack, steps: &mut Vec<ParseStep>, word: Lexeme, at: usize)
     }
 }
 
-// One more word after the name of a call or of a constant.
+/// One more word after the name of a call or of a constant.
 fn call(
     stack: &mut Stack,
     steps: &mut Vec<ParseStep>,
@@ -190,7 +190,7 @@ fn call(
     }
 }
 
-// One more word after `cell(` and a string.
+/// One more word after `cell(` and a string.
 fn close_cell(
     stack: &Stack,
     steps: &mut Vec<ParseStep>,
@@ -212,7 +212,7 @@ fn close_cell(
     }
 }
 
-// One more word after `cell(`, a string, a comma, and a number of decimal places.
+/// One more word after `cell(`, a string, a comma, and a number of decimal places.
 fn close_decimal(
     stack: &Stack,
     steps: &mut Vec<ParseStep>,
@@ -234,7 +234,7 @@ fn close_decimal(
     }
 }
 
-// One more word after `row(`.
+/// One more word after `row(`.
 fn close_row(stack: &Stack, steps: &mut Vec<ParseStep>, word: Lexeme, at: usize) -> Parsed<Held>
     requires { IsCoded stack.now steps.old.items Held.RowOpen }
     ensures { Turns (row_closed (frames_of stack.now (run [] steps.old.items)) word)
@@ -249,7 +249,7 @@ fn close_row(stack: &Stack, steps: &mut Vec<ParseStep>, word: Lexeme, at: usize)
     }
 }
 
-// One more word.
+/// One more word.
 fn turn(
     stack: &mut Stack,
     steps: &mut Vec<ParseStep>,
@@ -294,7 +294,7 @@ fn turn(
     }
 }
 
-// What stands after the last word, a constant made an operand.
+/// What stands after the last word, a constant made an operand.
 fn settle(stack: &Stack, steps: &mut Vec<ParseStep>, held: Held) -> Parsed<bool>
     requires { IsCoded stack.now steps.old.items held }
     ensures { IsSettled (state_of stack.now steps.old.items held) stack.now steps.new.items result }

@@ -13,16 +13,16 @@ ghost use Rattle.lambda_expr.specs.Refusals.{expression_verdict, verdict};
 ghost use Rattle.lambda_expr.specs.Refusals.{wanted as specs_wanted};
 ghost use Rattle.std.specs.Prelude.{◌≡◌, ◌≢◌, [], Err, IfErr, IfOk, Ok};
 
-use super::body::{BodySteps, parse_body};
-use super::check::{MAX_DEPTH, summarize};
-use super::elaborate::{TypedOperand, elaborate};
-use super::fault::ReadFault;
-use super::head::{parameters, parse_head};
-use super::lexeme::Lexemes;
-use super::parse::{ParseStop, Parsed};
-use super::step::ParseStep;
-use super::stream::judge_stream;
-use super::want::Want;
+use crate::body::{BodySteps, parse_body};
+use crate::check::{MAX_DEPTH, summarize};
+use crate::elaborate::{TypedOperand, elaborate};
+use crate::fault::ReadFault;
+use crate::head::{parameters, parse_head};
+use crate::lexeme::Lexemes;
+use crate::parse::{ParseStop, Parsed};
+use crate::step::ParseStep;
+use crate::stream::judge_stream;
+use crate::want::Want;
 use lambda_values::{Body, Lambda, PairForm};
 use std::alloc::Global;
 use stream_tokens::{CutText, cut};
@@ -30,7 +30,7 @@ use stream_tokens::{CutText, cut};
 /// How many tokens a lambda may have.
 const MAX_TOKENS: usize = 4096;
 
-// Reads the words of a lambda: its body in steps, or where the words stop.
+/// Reads the words of a lambda: its body in steps, or where the words stop.
 fn parse_lambda(alloc: Global, words: &Lexemes, want: Want) -> Parsed<BodySteps>
     ensures ok { IfOk result (λ body. IsWritten want words.now body) }
     ensures stops { IfErr result (λ stop. IsStop (ALambda want) words.now stop) }
@@ -45,7 +45,7 @@ fn parse_lambda(alloc: Global, words: &Lexemes, want: Want) -> Parsed<BodySteps>
     }
 }
 
-// The lambda that is wanted, if the operand has its type.
+/// The lambda that is wanted, if the operand has its type.
 fn wanted(want: Want, operand: TypedOperand, form: PairForm) -> Result<Lambda, ReadFault>
     ensures ok { IfOk result (λ lambda. specs_wanted want (typed_of operand) form ≡ Ok (body_of lambda.body)) }
     ensures refused { IfErr result (λ fault. (fault ≡ ReadFault.WrongType)
@@ -60,7 +60,7 @@ fn wanted(want: Want, operand: TypedOperand, form: PairForm) -> Result<Lambda, R
     Ok(Lambda { body })
 }
 
-// The lambda of an expression, or the first refusal: of its numbers, its depth, its names, its types.
+/// The lambda of an expression, or the first refusal: of its numbers, its depth, its names, its types.
 fn judge_expression(
     alloc: Global,
     text: &CutText,
@@ -84,7 +84,7 @@ fn judge_expression(
     wanted(want, operand, summary.form.whole())
 }
 
-// The lambda, or the first refusal.
+/// The lambda, or the first refusal.
 fn judge(alloc: Global, text: &CutText, body: &BodySteps, want: Want) -> Result<Lambda, ReadFault>
     ensures { (shape : BodyShape) → AreSteps shape body.now
         → IsJudged (verdict want (names_in text.now.bytes text.now.tokens) shape) result }

@@ -3,7 +3,7 @@
 ghost use Rattle.lambda_expr.specs.Signs.{is_prefix, level, operation_of, sign_of};
 ghost use Rattle.std.specs.Prelude.{◌≡◌};
 
-use super::operation::SignOperation;
+use crate::operation::SignOperation;
 use lambda_values::{BinaryOperator, Comparison, Connective};
 use stream_tokens::Symbol;
 

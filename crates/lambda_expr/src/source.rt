@@ -6,11 +6,11 @@ ghost use Rattle.lambda_expr.specs.SourceReading.{TakesMore, named_at, stream_at
 ghost use Rattle.lambda_expr.specs.Sources.{Takes};
 ghost use Rattle.std.specs.Prelude.{◌≡◌, ◌≤◌, IfErr, IfOk, drop};
 
-use super::lexeme::{Lexeme, Lexemes, Name};
-use super::parse::{ParseStop, Parsed, parse};
-use super::sign::Sign;
-use super::step::ParseStep;
-use super::table::Member;
+use crate::lexeme::{Lexeme, Lexemes, Name};
+use crate::parse::{ParseStop, Parsed, parse};
+use crate::sign::Sign;
+use crate::step::ParseStep;
+use crate::table::Member;
 use std::alloc::Global;
 
 /// A method that gives a stream.
@@ -31,7 +31,7 @@ pub(crate) struct Opened {
 }
 
 impl StreamSource {
-    // Whether it has this number of operands.
+    /// Whether it has this number of operands.
     fn takes(self, count: usize) -> bool
         ensures { Says result (Takes self count) }
     {
@@ -42,7 +42,7 @@ impl StreamSource {
         }
     }
 
-    // Whether one more operand may follow after this number of them.
+    /// Whether one more operand may follow after this number of them.
     fn takes_more(self, count: usize) -> bool
         ensures { Says result (TakesMore self count) }
     {
@@ -54,7 +54,7 @@ impl StreamSource {
     }
 }
 
-// The name of a source and the parenthesis that opens, from a place on.
+/// The name of a source and the parenthesis that opens, from a place on.
 #[tactic(auto, using(crate::proofs::SourceLemmas::named_there))]
 fn parse_name(words: &Lexemes, at: usize) -> Result<Opened, usize>
     requires { at ≤ 2 }
@@ -91,7 +91,7 @@ struct SourceOperand {
     end: usize,
 }
 
-// The operand that words begin with.
+/// The operand that words begin with.
 fn parse_part(alloc: Global, words: &Lexemes) -> Parsed<SourceOperand>
     ensures ok { IfOk result (λ part. IsFront words.now part.steps.items part.end) }
     ensures stops { IfErr result (λ stop. IsNoNext words.now stop) }
@@ -113,7 +113,7 @@ fn parse_part(alloc: Global, words: &Lexemes) -> Parsed<SourceOperand>
     }
 }
 
-// The operands from the first one on, which is no parenthesis.
+/// The operands from the first one on, which is no parenthesis.
 fn parse_parts(alloc: Global, source: StreamSource, words: &Lexemes) -> Parsed<Vec<Vec<ParseStep>>>
     requires { TakesMore source 0 }
     ensures ok { IfOk result (λ parts. ArePosted source words.now parts.items) }

@@ -3,7 +3,7 @@
 ghost use Rattle.lambda_expr.specs.declared.parse.Pending.{Pending as pending};
 ghost use Rattle.std.specs.Prelude.{◌≡◌, [], ◌∷◌, IfNone, IfSome, List, OnOk, reverse};
 
-use super::parse::Pending;
+use crate::parse::Pending;
 use std::alloc::{AllocError, Global};
 use std::marker::Model;
 

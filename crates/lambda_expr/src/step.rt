@@ -1,7 +1,7 @@
 //! Expressions in postfix order.
 
-use super::lexeme::{ClassName, Name, Numeral, PlainName};
-use super::sign::Sign;
+use crate::lexeme::{ClassName, Name, Numeral, PlainName};
+use crate::sign::Sign;
 
 /// What a closing parenthesis ends.
 #[derive(Clone, Copy)]

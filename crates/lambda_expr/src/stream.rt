@@ -11,17 +11,17 @@ ghost use Rattle.lambda_expr.specs.StreamChecks.{stream_of};
 ghost use Rattle.lambda_values.specs.Streams.{exprs_of, inner_of};
 ghost use Rattle.std.specs.Prelude.{◌≡◌, ◌<◌, ◌≤◌, IfNone, IfOk, IfSome, List, Ok, length, option_map};
 
-use super::check::{MAX_DEPTH, NOTHING, Summary, binary, summarize};
-use super::elaborate::{TypedOperand, elaborate};
-use super::fault::ReadFault;
-use super::sign::Sign;
-use super::source::StreamSource;
-use super::step::ParseStep;
+use crate::check::{MAX_DEPTH, NOTHING, Summary, binary, summarize};
+use crate::elaborate::{TypedOperand, elaborate};
+use crate::fault::ReadFault;
+use crate::sign::Sign;
+use crate::source::StreamSource;
+use crate::step::ParseStep;
 use lambda_values::{Body, InnerExpr, Lambda, LongExpr, Operands};
 use std::alloc::{AllocError, Global};
 use stream_tokens::CutText;
 
-// What the checks find in operands, from their steps.
+/// What the checks find in operands, from their steps.
 fn check(alloc: Global, operands: &[Vec<ParseStep>]) -> Result<Summary, AllocError>
     ensures { IfOk result (λ checks. checks ≡ found_in no_operands (steps_of operands.now)) }
 {
@@ -35,7 +35,7 @@ fn check(alloc: Global, operands: &[Vec<ParseStep>]) -> Result<Summary, AllocErr
     Ok(checks)
 }
 
-// The numbers that operands are, from their steps; none if one of them is no number.
+/// The numbers that operands are, from their steps; none if one of them is no number.
 fn numbers(
     alloc: Global,
     text: &CutText,
@@ -54,7 +54,7 @@ fn numbers(
     Ok(Some(exprs))
 }
 
-// The stream of a source and its operands; none if there are more than 64.
+/// The stream of a source and its operands; none if there are more than 64.
 fn stream_of(source: StreamSource, mut operands: Vec<LongExpr>) -> Option<InnerExpr>
     ensures some { Takes source (length operands.items)
         → IfSome result (λ inner. Some (inner_of inner) ≡ stream_of source (exprs_of operands.items)) }
@@ -75,7 +75,7 @@ fn stream_of(source: StreamSource, mut operands: Vec<LongExpr>) -> Option<InnerE
     }
 }
 
-// The lambda of a source and its operands.
+/// The lambda of a source and its operands.
 fn streamed(source: StreamSource, operands: Vec<LongExpr>) -> Result<Lambda, ReadFault>
     ensures { Takes source (length operands.items) → length operands.items ≤ 64
         → IsJudged (lambda_of (stream_of source (exprs_of operands.items))) result }

@@ -5,10 +5,10 @@ ghost use Rattle.lambda_expr.specs.Typing.{constant_of, function_of};
 ghost use Rattle.std.specs.Prelude.{◌≡◌};
 
 use self::Member::{Constant, InBoth, InLong, InMath, Source};
-use super::lexeme::{ClassName, Name};
-use super::operation::Function;
-use super::operation::Function::{Binary, Unary};
-use super::source::StreamSource;
+use crate::lexeme::{ClassName, Name};
+use crate::operation::Function;
+use crate::operation::Function::{Binary, Unary};
+use crate::source::StreamSource;
 use lambda_values::{BinaryOperator, UnaryOperator};
 
 /// What a name is after `Math .`, `Long .` or `LongStream .`.

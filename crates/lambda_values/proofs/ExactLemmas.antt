@@ -1,5 +1,6 @@
 -- The integers that 64 bits hold.
-use Rattle.std.proofs.Common.{◌≡◌, ◌<◌, ◌^◌, refl, ap, arith, true, false, ℤ, pos, negsuc, FitsSigned, w64, Ok, Some, None, Option}
+use Rattle.std.proofs.Common.{◌≡◌, ◌<◌, ◌^◌, refl, ap, arith, true, false, ℤ, pos, negsuc, FitsSigned, w64, Ok, Some}
+use Rattle.std.proofs.Common.{None, Option}
 use Rattle.std.specs.Option.{SomeIff, ok_or}
 use Rattle.std.proofs.lemmas.Grind.{common_steps}
 use Rattle.lambda_values.specs.declared.fault.FaultKind.TheVariants.{Overflow}

@@ -1,5 +1,6 @@
 -- What 64 bits keep of an integer differs from it by a multiple of 2^64.
-use Rattle.std.proofs.Common.{◌≡◌, ℕ, suc, ◌+◌, ◌-◌, ◌*◌, ◌/◌, ◌%◌, ◌^◌, ◌<◌, ◌≤◌, ap, sym, ◌∙◌, arith, ℤ, pos, negsuc, neg_ℤ, FitsSigned, w64, ⊎_elim}
+use Rattle.std.proofs.Common.{◌≡◌, ℕ, suc, ◌+◌, ◌-◌, ◌*◌, ◌/◌, ◌%◌, ◌^◌, ◌<◌, ◌≤◌, ap, sym, ◌∙◌, arith, ℤ, pos, negsuc}
+use Rattle.std.proofs.Common.{neg_ℤ, FitsSigned, w64, ⊎_elim}
 use Rattle.std.specs.Prelude.{◌+ℤ◌, ◌*ℤ◌}
 use Rattle.std.specs.Int.{int_wrap, cast_signed}
 use Rattle.std.proofs.Math.Nat.{mod-lt, div-add-mod'}
@@ -10,7 +11,8 @@ use Rattle.std.proofs.lemmas.Int.{to_z_pos, ints, int_wrap_fits, int_wrap-add_ri
 use Rattle.lambda_values.specs.Wrap.{wrap}
 
 -- the difference of two multiples, as one
-one_multiple : (w z : ℤ) (j k : ℕ) → w +ℤ pos (j * 2 ^ 64) ≡ z +ℤ pos (k * 2 ^ 64) → (i : ℤ) × (w ≡ z +ℤ i *ℤ pos (2 ^ 64))
+one_multiple : (w z : ℤ) (j k : ℕ) → w +ℤ pos (j * 2 ^ 64) ≡ z +ℤ pos (k * 2 ^ 64)
+    → (i : ℤ) × (w ≡ z +ℤ i *ℤ pos (2 ^ 64))
 one_multiple w z j k e = (pos k +ℤ neg_ℤ (pos j), omega (arith, ints))
 
 -- the signed number that 64 bits encode
@@ -19,7 +21,8 @@ bits_differ n h = ⊎_elim
     (λ (low : n < 2 ^ 63). (0, let same = to_z_pos w64 n low in omega (arith, ints, same)))
     (λ (high : 2 ^ 63 ≤ n).
     let back : 2 ^ 64 - suc (2 ^ 64 - suc n) ≡ n = omega arith in
-    let same : cast_signed w64 n ≡ negsuc (2 ^ 64 - suc n) = ap (cast_signed w64) (sym back) ∙ to_z-neg w64 (2 ^ 64 - suc n) (omega arith) in
+    let same : cast_signed w64 n ≡ negsuc (2 ^ 64 - suc n) =
+    ap (cast_signed w64) (sym back) ∙ to_z-neg w64 (2 ^ 64 - suc n) (omega arith) in
     (1, ap (λ z. z +ℤ pos (1 * 2 ^ 64)) same ∙ omega (arith, ints)))
     (cases_lt n (2 ^ 63))
 
@@ -46,4 +49,5 @@ pub wrap_only : (z k : ℤ) → FitsSigned w64 (z +ℤ k *ℤ pos (2 ^ 64)) → 
 unfolding int_wrap
 wrap_only z k f =
     let m = k *ℤ pos (2 ^ 64) in
-    ap wrap (sym (+ℤ_idr z)) ∙ ap (λ y. wrap (z +ℤ y)) (sym (multiple_gone k)) ∙ int_wrap-add_right w64 z m ∙ int_wrap_fits w64 (z +ℤ m) f
+    ap wrap (sym (+ℤ_idr z)) ∙ ap (λ y. wrap (z +ℤ y)) (sym (multiple_gone k)) ∙ int_wrap-add_right w64 z m
+    ∙ int_wrap_fits w64 (z +ℤ m) f

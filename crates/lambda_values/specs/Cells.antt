@@ -2,7 +2,8 @@
 use Rattle.std.specs.Prelude.{ℕ, List, [], ◌∷◌, ◌++◌}
 use Rattle.lambda_values.specs.Lambda.{AbstractLambda, long, boolean, stream, pair}
 use Rattle.lambda_values.specs.Streams.{Inner, range, range_closed, values}
-use Rattle.lambda_values.specs.Term.{Long, number, parameter, reference, cell, row, unary, binary, choose, Truth, literal, compare, opposite, connect, choose_truth}
+use Rattle.lambda_values.specs.Term.{Long, number, parameter, reference, cell, row, unary, binary, choose, Truth}
+use Rattle.lambda_values.specs.Term.{literal, compare, opposite, connect, choose_truth}
 
 -- the names of the columns whose cells an expression is made of, from left to right
 abbrev mutual

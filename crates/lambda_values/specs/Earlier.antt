@@ -5,7 +5,8 @@ use Rattle.std.specs.Cmp.Lexicographic.{pointwise}
 use Rattle.tables.specs.Table.{NamedColumn}
 use Rattle.lambda_values.specs.declared.env.NamedNumber.{NamedNumber}
 
--- the numbers under the `$` names of lambdas, and the table whose columns `cell` names; without columns if the items are
+-- the numbers under the `$` names of lambdas, and the table whose columns `cell` names; without columns if the items
+-- are
 -- no rows
 pub record Numbers : Type 0 where
   pub earlier : List NamedNumber

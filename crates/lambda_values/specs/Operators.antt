@@ -1,5 +1,6 @@
 -- Meaning: what each operator gives, over unbounded integers.
-use Rattle.std.specs.Prelude.{ℕ, zero, suc, ◌^◌, ◌/◌, ◌%◌, ℤ, pos, negsuc, neg_ℤ, ◌+ℤ◌, ◌-ℤ◌, ◌*ℤ◌, Bool, true, false, not, Result, Ok, Err, if◌then◌else◌, int_lt, int_div, int_rem, unsigned_abs, nat_lt}
+use Rattle.std.specs.Prelude.{ℕ, zero, suc, ◌^◌, ◌/◌, ◌%◌, ℤ, pos, negsuc, neg_ℤ, ◌+ℤ◌, ◌-ℤ◌, ◌*ℤ◌, Bool, true, false}
+use Rattle.std.specs.Prelude.{not, Result, Ok, Err, if◌then◌else◌, int_lt, int_div, int_rem, unsigned_abs, nat_lt}
 use Rattle.std.specs.Ordering.{int_eq}
 use Rattle.std.specs.Int.{w64, cast_unsigned, int_bit_and, int_bit_or, int_bit_xor, int_max, int_min}
 use Rattle.lambda_values.specs.declared.fault.FaultKind.{FaultKind}

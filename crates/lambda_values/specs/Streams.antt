@@ -1,5 +1,6 @@
 -- Meaning: the values of an inner stream.
-use Rattle.std.specs.Prelude.{ℕ, zero, suc, ◌^◌, ℤ, pos, ◌+ℤ◌, ◌-ℤ◌, int_lt, nat_lt, unsigned_abs, if◌then◌else◌, List, [], ◌∷◌, Option, Some, None, Result, Ok, Err}
+use Rattle.std.specs.Prelude.{ℕ, zero, suc, ◌^◌, ℤ, pos, ◌+ℤ◌, ◌-ℤ◌, int_lt, nat_lt, unsigned_abs, if◌then◌else◌, List}
+use Rattle.std.specs.Prelude.{[], ◌∷◌, Option, Some, None, Result, Ok, Err}
 use Rattle.lambda_values.specs.declared.fault.FaultKind.{FaultKind}
 use Rattle.lambda_values.specs.declared.fault.FaultKind.TheVariants.{SourceTooLong}
 use Rattle.lambda_values.specs.declared.item.Item.{Item}
@@ -45,7 +46,8 @@ each_value (e ∷ es) x env = on (long_value e x env) (λ v. on (each_value es x
 -- the values at the item x: of LongStream, range, rangeClosed, of and empty
 abbrev pub inner_value : Inner → Item → Numbers → Result (List ℤ) FaultKind
 inner_value (range a b) x env = on (long_value a x env) (λ v. on (long_value b x env) (λ w. up_from v (distance v w)))
-inner_value (range_closed a b) x env = on (long_value a x env) (λ v. on (long_value b x env) (λ w. up_from v (through v w)))
+inner_value (range_closed a b) x env = on (long_value a x env)
+    (λ v. on (long_value b x env) (λ w. up_from v (through v w)))
 inner_value (values es) x env = each_value es x env
 
 -- the terms that expressions of the program mean

@@ -10,7 +10,8 @@ use Rattle.lambda_values.specs.declared.expr.BoolExpr.{BoolExpr}
 use Rattle.lambda_values.specs.declared.expr.BoolExpr.TheVariants as bool_expr
 
 mutual
-  -- an expression whose value is a number; parameters count from 0, a reference is the name of an earlier job, a cell the
+  -- an expression whose value is a number; parameters count from 0, a reference is the name of an earlier job, a cell
+  -- the
   -- name of a column, and a row the place of the item
   pub data Long : Type 0 where
     number : ℤ → Long

@@ -8,7 +8,8 @@ use Rattle.lambda_values.specs.declared.operator.Connective.TheVariants as conne
 use Rattle.lambda_values.specs.Earlier.{Numbers, cell_at, number_under}
 use Rattle.lambda_values.specs.Operators.{on, unary_value, binary_value, comparison_value}
 use Rattle.lambda_values.specs.Wrap.{wrap}
-use Rattle.lambda_values.specs.Term.{Long, number, parameter, reference, cell, row, unary, binary, choose, Truth, literal, compare, opposite, connect, choose_truth}
+use Rattle.lambda_values.specs.Term.{Long, number, parameter, reference, cell, row, unary, binary, choose, Truth}
+use Rattle.lambda_values.specs.Term.{literal, compare, opposite, connect, choose_truth}
 
 -- the operand that a condition chooses (JLS 17, 15.25)
 abbrev pub chosen : {A : Type 0} → Bool → A → A → A
@@ -36,7 +37,9 @@ abbrev mutual
 
   pub truth_value : Truth → Item → Numbers → Result Bool FaultKind
   truth_value (literal b) x env = Ok b
-  truth_value (compare o a b) x env = on (long_value a x env) (λ v. on (long_value b x env) (λ w. Ok (comparison_value o v w)))
+  truth_value (compare o a b) x env = on (long_value a x env)
+      (λ v. on (long_value b x env) (λ w. Ok (comparison_value o v w)))
   truth_value (opposite a) x env = on (truth_value a x env) (λ p. Ok (not p))
   truth_value (connect o a b) x env = on (truth_value a x env) (λ p. connected o p (truth_value b x env))
-  truth_value (choose_truth c a b) x env = on (truth_value c x env) (λ t. chosen t (truth_value a x env) (truth_value b x env))
+  truth_value (choose_truth c a b) x env =
+      on (truth_value c x env) (λ t. chosen t (truth_value a x env) (truth_value b x env))

@@ -6,10 +6,10 @@ ghost use Rattle.lambda_values.specs.Streams.{exprs_of, inner_of};
 ghost use Rattle.lambda_values.specs.Term.{long_of, truth_of};
 ghost use Rattle.std.specs.Prelude.{◌≡◌, ◌++◌, IfOk};
 
-use super::expr::{BoolExpr, LongExpr};
-use super::inner::InnerExpr;
-use super::lambda::{Body, Lambda};
-use super::names::push_name;
+use crate::expr::{BoolExpr, LongExpr};
+use crate::inner::InnerExpr;
+use crate::lambda::{Body, Lambda};
+use crate::names::push_name;
 use std::alloc::{AllocError, Global};
 use stream_tokens::Bytes;
 
@@ -65,7 +65,7 @@ impl BoolExpr {
     }
 }
 
-// The names of expressions, one expression after the other.
+/// The names of expressions, one expression after the other.
 fn push_each_cells(
     alloc: Global,
     exprs: &[LongExpr],

@@ -4,10 +4,10 @@ ghost use Rattle.lambda_values.specs.Term.{long_of, truth_of};
 ghost use Rattle.lambda_values.specs.Value.{long_value, truth_value};
 ghost use Rattle.std.specs.Prelude.{◌≡◌};
 
-use super::env::Env;
-use super::fault::FaultKind;
-use super::item::Item;
-use super::operator::{BinaryOperator, Comparison, Connective, UnaryOperator};
+use crate::env::Env;
+use crate::fault::FaultKind;
+use crate::item::Item;
+use crate::operator::{BinaryOperator, Comparison, Connective, UnaryOperator};
 use stream_tokens::Bytes;
 
 /// An expression whose value is a number of 64 bits.

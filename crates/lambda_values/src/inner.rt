@@ -5,12 +5,12 @@ ghost use Rattle.lambda_values.specs.Streams.{inner_values, through, run_or_list
 ghost use Rattle.lambda_values.specs.Term.{long_of};
 ghost use Rattle.std.specs.Prelude.{◌≡◌, ◌+◌, ◌<◌, ◌≤◌, ◌^◌, ℕ, Err, IfErr, IfNone, IfOk, IfSome, Ok, length, nat_le};
 
-use super::env::Env;
-use super::expr::LongExpr;
-use super::fault::FaultKind;
-use super::item::Item;
-use super::operands::Operands;
-use super::run::Run;
+use crate::env::Env;
+use crate::expr::LongExpr;
+use crate::fault::FaultKind;
+use crate::item::Item;
+use crate::operands::Operands;
+use crate::run::Run;
 use arrayvec::ArrayVec;
 
 /// How many values an inner stream may have.
@@ -71,7 +71,7 @@ pub fn closed_range(from: i64, to: i64) -> Result<Run, FaultKind>
     })
 }
 
-// The values of expressions in a list, or the first fault.
+/// The values of expressions in a list, or the first fault.
 fn list_values(
     operands: &Operands,
     x: Item,

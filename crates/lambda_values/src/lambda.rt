@@ -1,7 +1,7 @@
 //! Lambdas as they are kept once they are read.
 
-use super::expr::{BoolExpr, LongExpr};
-use super::inner::InnerExpr;
+use crate::expr::{BoolExpr, LongExpr};
+use crate::inner::InnerExpr;
 
 /// A lambda over one parameter or two.
 #[derive(Drop)]

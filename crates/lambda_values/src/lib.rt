@@ -13,6 +13,10 @@
 //! Not promised: that memory is there, that an expression that is nested without limit fits the stack
 //! (what `lambda_expr::read_lambda` gives is at most 64 deep), and how fast an expression is
 //! evaluated.
+//!
+//! Tested: `walks.rt` of `test_completers`; `plans.rt`, `refusals.rt`, `reports.rt`, `shown.rt` of `test_engine`;
+//! `batches.rt`, `calls.rt`, `full_sinks.rt`, `lambdas.rt`, `messages.rt`, `walks.rt` of `test_low`; runs of the
+//! programs in `tests`.
 #![tactic(auto)]
 
 mod arithmetic;

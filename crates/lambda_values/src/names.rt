@@ -9,9 +9,9 @@ ghost use Rattle.lambda_values.specs.Value.{long_value, truth_value};
 ghost use Rattle.lambda_values.specs.declared.item.Item.{Item};
 ghost use Rattle.std.specs.Prelude.{◌≡◌, ◌++◌, [], ◌∷◌, IfOk};
 
-use super::expr::{BoolExpr, LongExpr};
-use super::inner::InnerExpr;
-use super::lambda::{Body, Lambda};
+use crate::expr::{BoolExpr, LongExpr};
+use crate::inner::InnerExpr;
+use crate::lambda::{Body, Lambda};
 use std::alloc::{AllocError, Global};
 use stream_tokens::Bytes;
 
@@ -81,7 +81,7 @@ impl BoolExpr {
     }
 }
 
-// The names of expressions, one expression after the other.
+/// The names of expressions, one expression after the other.
 fn push_each(alloc: Global, exprs: &[LongExpr], names: &mut Vec<Bytes>) -> Result<(), AllocError>
     ensures { IfOk result (λ _. names.new.items ≡ names.old.items ++ each_names (exprs_of exprs.now)) }
 {

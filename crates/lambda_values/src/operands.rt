@@ -2,7 +2,7 @@
 
 ghost use Rattle.std.specs.Prelude.{◌≡◌, ◌<◌, ◌≤◌, IfNone, IfSome, length};
 
-use super::expr::LongExpr;
+use crate::expr::LongExpr;
 
 /// At most 64 expressions, in order of writing.
 #[derive(Drop)]

@@ -7,8 +7,8 @@ ghost use Rattle.std.specs.Int.{w64};
 ghost use Rattle.std.specs.Option.{SomeIff};
 ghost use Rattle.std.specs.Prelude.{◌≡◌, ◌<◌, ℤ, FitsSigned};
 
-use super::fault::FaultKind;
-use super::quotient::{divide, floor_divide, take_floor_remainder, take_remainder};
+use crate::fault::FaultKind;
+use crate::quotient::{divide, floor_divide, take_floor_remainder, take_remainder};
 
 /// An operation on one number.
 #[derive(Clone, Copy, PartialEq, Eq)]
@@ -95,14 +95,14 @@ pub enum Connective {
     Or,
 }
 
-// The value that an exact operation gives, or `Overflow`.
+/// The value that an exact operation gives, or `Overflow`.
 fn or_overflow(value: Option<i64>) -> Result<i64, FaultKind>
     ensures { (z : ℤ) → SomeIff value (FitsSigned w64 z) z → result ≡ exact z }
 {
     value.ok_or(FaultKind::Overflow)
 }
 
-// How far a shift goes (JLS 17, 15.19).
+/// How far a shift goes (JLS 17, 15.19).
 fn shift_distance(count: i64) -> u32
     ensures value { result ≡ low_six_bits count }
     ensures bound { result < 64 }

@@ -9,8 +9,8 @@ ghost use Rattle.lambda_values.specs.Value.{long_value, truth_value};
 ghost use Rattle.lambda_values.specs.declared.item.Item.{Item};
 ghost use Rattle.std.specs.Prelude.{◌≡◌, true};
 
-use super::expr::{BoolExpr, LongExpr};
-use super::inner::InnerExpr;
+use crate::expr::{BoolExpr, LongExpr};
+use crate::inner::InnerExpr;
 
 impl LongExpr {
     /// Whether there is neither `cell` nor `row` in it. One call for each node.

@@ -7,7 +7,7 @@ ghost use Rattle.lambda_values.specs.Wrap.{wrap};
 ghost use Rattle.std.specs.Int.{IsNonZero, w64};
 ghost use Rattle.std.specs.Prelude.{◌≡◌, ◌<◌};
 
-use super::fault::FaultKind;
+use crate::fault::FaultKind;
 
 /// `x / y`.
 pub(crate) fn divide(x: i64, y: i64) -> Result<i64, FaultKind>
@@ -29,14 +29,14 @@ pub(crate) fn take_remainder(x: i64, y: i64) -> Result<i64, FaultKind>
     Ok(x.wrapping_rem(y))
 }
 
-// Whether a remainder other than 0 has not the sign of the divisor.
+/// Whether a remainder other than 0 has not the sign of the divisor.
 fn is_opposite(rest: i64, divisor: i64) -> bool
     ensures { result ≡ is_opposite rest divisor }
 {
     rest != 0 && (rest < 0) != (divisor < 0)
 }
 
-// A quotient rounded toward zero is one too large if the remainder and the divisor differ in sign.
+/// A quotient rounded toward zero is one too large if the remainder and the divisor differ in sign.
 fn round_down(x: i64, y: i64) -> i64
     requires { IsNonZero w64 y }
     ensures { result ≡ wrap (rounded_down x y) }

@@ -1,17 +1,23 @@
--- The answers that parts are merged to: one for each job, and what holds of each answer but of `Unusable` holds of them if it
+-- The answers that parts are merged to: one for each job, and what holds of each answer but of `Unusable` holds of them
+-- if it
 -- holds of the parts' answers.
-use Rattle.std.proofs.Common.{◌≡◌, ℕ, suc, ℤ, Bool, true, false, List, [], ◌∷◌, length, Option, Some, None, refl, sym, ap, subst, ◌∙◌}
+use Rattle.std.proofs.Common.{◌≡◌, ℕ, suc, ℤ, Bool, true, false, List, [], ◌∷◌, length, Option, Some, None, refl, sym}
+use Rattle.std.proofs.Common.{ap, subst, ◌∙◌}
 use Rattle.std.specs.Prelude.{if◌then◌else◌}
 use Rattle.trace.specs.declared.item.Fault.{Fault}
 use Rattle.reduce_ops.specs.declared.op.Op.{Op}
 use Rattle.reduce_ops.specs.declared.op.Op.TheVariants as op
 use Rattle.find_ops.specs.Finds.{first, any_match, all_match, none_match}
-use Rattle.job_language.specs.Jobs.{AbstractTerminal, sum, count, min, max, to_array, reduce, reduce_from, find, exact_sum, AbstractJob}
+use Rattle.job_language.specs.Jobs.{AbstractTerminal, sum, count, min, max, to_array, reduce, reduce_from, find}
+use Rattle.job_language.specs.Jobs.{exact_sum, AbstractJob}
 use Rattle.job_meaning.specs.declared.answer.Answer.{Answer}
 use Rattle.job_meaning.specs.declared.answer.Answer.TheVariants as answer
 use Rattle.job_meaning.specs.Walks.{fallback_as, fallback_of, instead_of_fault}
 use Rattle.report_merge.specs.Mergeable.{is_over_column}
-use Rattle.report_merge.specs.Merging.{Part, after, all_as_one, answer_beside, answers_beside, arrays_joined, as_one, beside, both, finished, firsts_joined, is_final, is_within, first_part, joined, merged, moved, numbers_joined, optionals_joined, part_with, truths_joined, same_answer, with_fallback, with_fallbacks}
+use Rattle.report_merge.specs.Merging.{Part, after, all_as_one, answer_beside, answers_beside, arrays_joined, as_one}
+use Rattle.report_merge.specs.Merging.{beside, both, finished, firsts_joined, is_final, is_within, first_part, joined}
+use Rattle.report_merge.specs.Merging.{merged, moved, numbers_joined, optionals_joined, part_with, truths_joined}
+use Rattle.report_merge.specs.Merging.{same_answer, with_fallback, with_fallbacks}
 
 nothing : {A B : Type 0} {x : A} → None ≡ Some x → B
 nothing e = absurd cc
@@ -35,7 +41,8 @@ both_parts None os cs e = nothing e
 both_parts (Some c) None cs e = nothing e
 both_parts (Some c) (Some rest) cs e = (c, rest, refl, refl, sym (the_same e))
 
-module _ (P : Answer → Type 0) (number : (z : ℤ) → P (answer.Number z)) (truth : (b : Bool) → P (answer.Truth b)) (optional : (v : Option ℤ) → P (answer.Optional v))
+module _ (P : Answer → Type 0) (number : (z : ℤ) → P (answer.Number z)) (truth : (b : Bool) → P (answer.Truth b))
+    (optional : (v : Option ℤ) → P (answer.Optional v))
     (array : (vs : List ℤ) → P (answer.Array vs)) (fault : (f : Fault) → P (answer.Fault f)) where
   of_numbers : (f : Op) (a b c : Answer) → numbers_joined f a b ≡ Some c → P c
   of_numbers f (answer.Number a) (answer.Number b) c e = subst P (the_same e) (number _)
@@ -128,21 +135,26 @@ module _ (P : Answer → Type 0) (number : (z : ℤ) → P (answer.Number z)) (t
   of_after d before rows a (answer.Array z) c e = of_joined d a (answer.Array z) c e
   of_after d before rows a (answer.Unusable z) c e = of_joined d a (answer.Unusable z) c e
 
-  either : (t : Bool) (a c : Answer) (o : Option Answer) → P a → (o ≡ Some c → P c) → (if t then Some a else o) ≡ Some c → P c
+  either : (t : Bool) (a c : Answer) (o : Option Answer) → P a → (o ≡ Some c → P c) → (if t then Some a else o) ≡ Some c
+      → P c
   either true a c o p q e = subst P (the_same e) p
   either false a c o p q e = q e
 
-  other_way : (t u : Bool) (a c : Answer) (o : Option Answer) → P a → (o ≡ Some c → P c) → (if t then o else if u then Some a else None) ≡ Some c → P c
+  other_way : (t u : Bool) (a c : Answer) (o : Option Answer) → P a → (o ≡ Some c → P c)
+      → (if t then o else if u then Some a else None) ≡ Some c → P c
   other_way true u a c o p q e = q e
   other_way false true a c o p q e = subst P (the_same e) p
   other_way false false a c o p q e = nothing e
 
-  of_beside : (job : AbstractJob) (before rows : ℕ) (a b c : Answer) → P a → answer_beside job before rows a b ≡ Some c → P c
+  of_beside : (job : AbstractJob) (before rows : ℕ) (a b c : Answer) → P a → answer_beside job before rows a b ≡ Some c
+      → P c
   of_beside job before rows a b c p e =
       other_way (is_over_column job) (same_answer a b) a c (beside job.terminal before rows a b) p
-      (either (is_final a job.terminal) a c (after b job.terminal before rows a) p (of_after job.terminal before rows a b c)) e
+      (either (is_final a job.terminal) a c (after b job.terminal before rows a) p
+      (of_after job.terminal before rows a b c)) e
 
-  of_all_beside : (jobs : List AbstractJob) (before rows : ℕ) (xs ys cs : List Answer) → Each P xs → answers_beside jobs before rows xs ys ≡ Some cs → Each P cs
+  of_all_beside : (jobs : List AbstractJob) (before rows : ℕ) (xs ys cs : List Answer) → Each P xs
+      → answers_beside jobs before rows xs ys ≡ Some cs → Each P cs
   of_all_beside [] before rows [] [] cs h e = subst (Each P) (the_same e) tt
   of_all_beside [] before rows [] (y ∷ ys) cs h e = nothing e
   of_all_beside [] before rows (x ∷ xs) ys cs h e = nothing e
@@ -150,7 +162,10 @@ module _ (P : Answer → Type 0) (number : (z : ℤ) → P (answer.Number z)) (t
   of_all_beside (job ∷ jobs) before rows (x ∷ xs) [] cs h e = nothing e
   of_all_beside (job ∷ jobs) before rows (x ∷ xs) (y ∷ ys) cs h e =
       let p = both_parts (answer_beside job before rows x y) (answers_beside jobs before rows xs ys) cs e in
-      subst (Each P) (sym p.4) (of_beside job before rows x y p.0 h.0 p.2, of_all_beside jobs before rows xs ys p.1 h.1 p.3)
+      subst (Each P) (sym p.4) (
+        of_beside job before rows x y p.0 h.0 p.2,
+        of_all_beside jobs before rows xs ys p.1 h.1 p.3,
+      )
 
   of_number_as : (d : AbstractTerminal) (z : Option ℤ) (c : Answer) → fallback_as d z ≡ Some c → P c
   of_number_as d None c e = nothing e
@@ -181,9 +196,11 @@ module _ (P : Answer → Type 0) (number : (z : ℤ) → P (answer.Number z)) (t
   chosen_one false a b p q = q
 
   of_fallback : (job : AbstractJob) (a : Answer) → P a → P (with_fallback job a)
-  of_fallback job a p = chosen_one (is_over_column job) (instead_of_fault (fallback_of job) a) a (of_instead (fallback_of job) a p (of_number_as job.terminal job.on_fault)) p
+  of_fallback job a p = chosen_one (is_over_column job) (instead_of_fault (fallback_of job) a) a
+      (of_instead (fallback_of job) a p (of_number_as job.terminal job.on_fault)) p
 
-  of_fallbacks : (jobs : List AbstractJob) (xs cs : List Answer) → Each P xs → with_fallbacks jobs xs ≡ Some cs → Each P cs
+  of_fallbacks : (jobs : List AbstractJob) (xs cs : List Answer) → Each P xs → with_fallbacks jobs xs ≡ Some cs
+      → Each P cs
   of_fallbacks [] [] cs h e = subst (Each P) (the_same e) tt
   of_fallbacks [] (x ∷ xs) cs h e = nothing e
   of_fallbacks (job ∷ jobs) [] cs h e = nothing e
@@ -191,20 +208,25 @@ module _ (P : Answer → Type 0) (number : (z : ℤ) → P (answer.Number z)) (t
       let p = both_parts (Some (with_fallback job x)) (with_fallbacks jobs xs) cs e in
       subst (Each P) (sym p.4) (subst P (the_same p.2) (of_fallback job x h.0), of_fallbacks jobs xs p.1 h.1 p.3)
 
-  of_as_one : (t : Bool) (n : ℕ) (o : Option (List Answer)) (q : Part) → (if t then None else part_with n o) ≡ Some q → o ≡ Some q.answers
+  of_as_one : (t : Bool) (n : ℕ) (o : Option (List Answer)) (q : Part) → (if t then None else part_with n o) ≡ Some q
+      → o ≡ Some q.answers
   of_as_one true n o q e = nothing e
   of_as_one false n None q e = nothing e
   of_as_one false n (Some cs) q e = ap Some (ap (λ (p : Part). p.answers) (the_same e))
 
   of_one : (jobs : List AbstractJob) (p q r : Part) → Each P p.answers → as_one jobs p q ≡ Some r → Each P r.answers
-  of_one jobs p q r h e = of_all_beside jobs p.rows q.rows p.answers q.answers r.answers h (of_as_one _ _ (answers_beside jobs p.rows q.rows p.answers q.answers) r e)
+  of_one jobs p q r h e = of_all_beside jobs p.rows q.rows p.answers q.answers r.answers h
+      (of_as_one _ _ (answers_beside jobs p.rows q.rows p.answers q.answers) r e)
 
-  of_all_as_one : (jobs : List AbstractJob) (o : Option Part) (qs : List Part) (r : Part) → ((p : Part) → o ≡ Some p → Each P p.answers) → all_as_one jobs o qs ≡ Some r → Each P r.answers
+  of_all_as_one : (jobs : List AbstractJob) (o : Option Part) (qs : List Part) (r : Part)
+      → ((p : Part) → o ≡ Some p → Each P p.answers) → all_as_one jobs o qs ≡ Some r → Each P r.answers
   of_all_as_one jobs None qs r h e = nothing e
   of_all_as_one jobs (Some p) [] r h e = subst (λ (q : Part). Each P q.answers) (the_same e) (h p refl)
-  of_all_as_one jobs (Some p) (q ∷ qs) r h e = of_all_as_one jobs (as_one jobs p q) qs r (λ s one. of_one jobs p q s (h p refl) one) e
+  of_all_as_one jobs (Some p) (q ∷ qs) r h e =
+      of_all_as_one jobs (as_one jobs p q) qs r (λ s one. of_one jobs p q s (h p refl) one) e
 
-  of_finished : (jobs : List AbstractJob) (o : Option Part) (cs : List Answer) → ((p : Part) → o ≡ Some p → Each P p.answers) → finished jobs o ≡ Some cs → Each P cs
+  of_finished : (jobs : List AbstractJob) (o : Option Part) (cs : List Answer)
+      → ((p : Part) → o ≡ Some p → Each P p.answers) → finished jobs o ≡ Some cs → Each P cs
   of_finished jobs None cs h e = nothing e
   of_finished jobs (Some p) cs h e = of_fallbacks jobs p.answers cs (h p refl) e
 
@@ -212,11 +234,13 @@ module _ (P : Answer → Type 0) (number : (z : ℤ) → P (answer.Number z)) (t
   first_is true p r e = nothing e
   first_is false p r e = the_same e
 
-  pub of_merged : (jobs : List AbstractJob) (ps : List Part) (cs : List Answer) → EachPart P ps → merged jobs ps ≡ Some cs → Each P cs
+  pub of_merged : (jobs : List AbstractJob) (ps : List Part) (cs : List Answer) → EachPart P ps
+      → merged jobs ps ≡ Some cs → Each P cs
   of_merged jobs [] cs h e = nothing e
   of_merged jobs (p ∷ ps) cs h e =
       of_finished jobs (all_as_one jobs (first_part p) ps) cs
-      (λ q one. of_all_as_one jobs (first_part p) ps q (λ r is. subst (λ (t : Part). Each P t.answers) (first_is _ p r is) h.0) one) e
+      (λ q one. of_all_as_one jobs (first_part p) ps q
+      (λ r is. subst (λ (t : Part). Each P t.answers) (first_is _ p r is) h.0) one) e
 
 with_each : (jobs : List AbstractJob) (xs cs : List Answer) → with_fallbacks jobs xs ≡ Some cs → length cs ≡ length jobs
 with_each [] [] cs e = ap length (sym (the_same e))
@@ -227,7 +251,8 @@ with_each (job ∷ jobs) (x ∷ xs) cs e =
     ap length p.4 ∙ ap suc (with_each jobs xs p.1 p.3)
 
 -- one answer for each job
-pub length_merged : (jobs : List AbstractJob) (ps : List Part) (cs : List Answer) → merged jobs ps ≡ Some cs → length cs ≡ length jobs
+pub length_merged : (jobs : List AbstractJob) (ps : List Part) (cs : List Answer) → merged jobs ps ≡ Some cs
+    → length cs ≡ length jobs
 length_merged jobs [] cs e = nothing e
 length_merged jobs (p ∷ ps) cs e = end (all_as_one jobs (first_part p) ps) e
   where

@@ -1,5 +1,6 @@
 -- A report as JSON holds one list of answers.
-use Rattle.std.proofs.Common.{◌≡◌, ℕ, suc, ℤ, pos, negsuc, ◌+◌, ◌*◌, ◌<◌, ◌≤◌, max, Bool, false, List, [], ◌∷◌, ◌++◌, length, Option, Some, None, refl, sym, ap, ◌∙◌, arith}
+use Rattle.std.proofs.Common.{◌≡◌, ℕ, suc, ℤ, pos, negsuc, ◌+◌, ◌*◌, ◌<◌, ◌≤◌, max, Bool, false, List, [], ◌∷◌, ◌++◌}
+use Rattle.std.proofs.Common.{length, Option, Some, None, refl, sym, ap, ◌∙◌, arith}
 use Rattle.std.specs.Prelude.{map, slice_index_or}
 use Rattle.std.proofs.lemmas.Fmt.{decimal_injective, signed_decimal_injective}
 use Rattle.json.specs.Json as json
@@ -29,10 +30,12 @@ the_same e = cc
 
 -- ---- texts
 
-same_outline : (d e : Data) → HasNumbers (outline d) → HasNumbers (outline e) → depth (outline d) ≤ json.max_depth → depth (outline e) ≤ json.max_depth
+same_outline : (d e : Data) → HasNumbers (outline d) → HasNumbers (outline e) → depth (outline d) ≤ json.max_depth
+    → depth (outline e) ≤ json.max_depth
     → compact_text d ≡ compact_text e → outline d ≡ outline e
 same_outline d e hd he sd se same =
-    the_same (sym (document-print (outline d) hd sd) ∙ ap json.document (print-outline d ∙ same ∙ sym (print-outline e)) ∙ document-print (outline e) he se)
+    the_same (sym (document-print (outline d) hd sd) ∙ ap json.document (print-outline d ∙ same ∙ sym (print-outline e))
+    ∙ document-print (outline e) he se)
 
 -- ---- numbers
 
@@ -62,7 +65,8 @@ abbrev is_item : json.Items → ℕ
 is_item json.no_items = 0
 is_item (json.item j js) = 1
 
-same_integers : (ys zs : List ℤ) → AllFit ys → AllFit zs → items_outline (items_of (map integer_json ys)) ≡ items_outline (items_of (map integer_json zs)) → ys ≡ zs
+same_integers : (ys zs : List ℤ) → AllFit ys → AllFit zs
+    → items_outline (items_of (map integer_json ys)) ≡ items_outline (items_of (map integer_json zs)) → ys ≡ zs
 same_integers [] [] hy hz e = refl
 same_integers [] (z ∷ zs) hy hz e = absurd (let n : 0 ≡ 1 = ap is_item e in omega arith)
 same_integers (y ∷ ys) [] hy hz e = absurd (let n : 1 ≡ 0 = ap is_item e in omega arith)
@@ -142,7 +146,8 @@ same_place None (Some j) ho hp e = absurd cc
 same_place (Some i) None ho hp e = absurd cc
 same_place (Some i) (Some j) ho hp e = ap Some (decimal_injective i j ho hp (ap integer_of e))
 
-same_optional : (o p : Option ℤ) → OptionFits o → OptionFits p → outline (optional_json o) ≡ outline (optional_json p) → o ≡ p
+same_optional : (o p : Option ℤ) → OptionFits o → OptionFits p → outline (optional_json o) ≡ outline (optional_json p)
+    → o ≡ p
 same_optional None None ho hp e = refl
 same_optional None (Some (pos n)) ho hp e = absurd cc
 same_optional None (Some (negsuc n)) ho hp e = absurd cc
@@ -153,51 +158,88 @@ same_optional (Some y) (Some z) ho hp e = ap Some (same_integer y z ho hp e)
 same_fault : (f g : Fault) → f.kind ≡ g.kind → f.stage ≡ g.stage → f.origin ≡ g.origin → f ≡ g
 same_fault f g k s o = λ i. record { kind = k i; stage = s i; origin = o i }
 
-pub same_first : (names : List (List ℕ)) (y z : ℕ) → IsFirst names y → IsFirst names z → slice_index_or names y [] ≡ slice_index_or names z [] → y ≡ z
+pub same_first : (names : List (List ℕ)) (y z : ℕ) → IsFirst names y → IsFirst names z
+    → slice_index_or names y [] ≡ slice_index_or names z [] → y ≡ z
 same_first names y z ha hb e =
     let left : y < z → ⊥ = λ h. hb y h e in
     let right : z < y → ⊥ = λ h. ha z h (sym e) in
     grind (arith, left, right)
 
-same_answer : (names : List (List ℕ)) (n : List ℕ) (a b : Answer) → AnswerFits names a → AnswerFits names b → outline (job_json names n a) ≡ outline (job_json names n b) → a ≡ b
-same_answer names n (answer.Number y) (answer.Number z) ha hb e = ap answer.Number (same_integer y z ha hb (ap second_value e))
-same_answer names n (answer.Number y) (answer.Truth z) ha hb e = absurd (let k : 110110 ≡ 110116 = ap tag e in omega arith)
-same_answer names n (answer.Number y) (answer.Optional z) ha hb e = absurd (let k : 110110 ≡ 110111 = ap tag e in omega arith)
-same_answer names n (answer.Number y) (answer.Array z) ha hb e = absurd (let k : 110110 ≡ 97110 = ap tag e in omega arith)
-same_answer names n (answer.Number y) (answer.Fault z) ha hb e = absurd (let k : 110110 ≡ 102105 = ap tag e in omega arith)
-same_answer names n (answer.Number y) (answer.Unusable z) ha hb e = absurd (let k : 110110 ≡ 110117 = ap tag e in omega arith)
-same_answer names n (answer.Truth y) (answer.Number z) ha hb e = absurd (let k : 110116 ≡ 110110 = ap tag e in omega arith)
+same_answer : (names : List (List ℕ)) (n : List ℕ) (a b : Answer) → AnswerFits names a → AnswerFits names b
+    → outline (job_json names n a) ≡ outline (job_json names n b) → a ≡ b
+same_answer names n (answer.Number y) (answer.Number z) ha hb e =
+    ap answer.Number (same_integer y z ha hb (ap second_value e))
+same_answer names n (answer.Number y) (answer.Truth z) ha hb e =
+    absurd (let k : 110110 ≡ 110116 = ap tag e in omega arith)
+same_answer names n (answer.Number y) (answer.Optional z) ha hb e =
+    absurd (let k : 110110 ≡ 110111 = ap tag e in omega arith)
+same_answer names n (answer.Number y) (answer.Array z) ha hb e =
+    absurd (let k : 110110 ≡ 97110 = ap tag e in omega arith)
+same_answer names n (answer.Number y) (answer.Fault z) ha hb e =
+    absurd (let k : 110110 ≡ 102105 = ap tag e in omega arith)
+same_answer names n (answer.Number y) (answer.Unusable z) ha hb e =
+    absurd (let k : 110110 ≡ 110117 = ap tag e in omega arith)
+same_answer names n (answer.Truth y) (answer.Number z) ha hb e =
+    absurd (let k : 110116 ≡ 110110 = ap tag e in omega arith)
 same_answer names n (answer.Truth y) (answer.Truth z) ha hb e = ap answer.Truth (ap (λ j. truth_of (second_value j)) e)
-same_answer names n (answer.Truth y) (answer.Optional z) ha hb e = absurd (let k : 110116 ≡ 110111 = ap tag e in omega arith)
-same_answer names n (answer.Truth y) (answer.Array z) ha hb e = absurd (let k : 110116 ≡ 97110 = ap tag e in omega arith)
-same_answer names n (answer.Truth y) (answer.Fault z) ha hb e = absurd (let k : 110116 ≡ 102105 = ap tag e in omega arith)
-same_answer names n (answer.Truth y) (answer.Unusable z) ha hb e = absurd (let k : 110116 ≡ 110117 = ap tag e in omega arith)
-same_answer names n (answer.Optional y) (answer.Number z) ha hb e = absurd (let k : 110111 ≡ 110110 = ap tag e in omega arith)
-same_answer names n (answer.Optional y) (answer.Truth z) ha hb e = absurd (let k : 110111 ≡ 110116 = ap tag e in omega arith)
-same_answer names n (answer.Optional y) (answer.Optional z) ha hb e = ap answer.Optional (same_optional y z ha hb (ap second_value e))
-same_answer names n (answer.Optional y) (answer.Array z) ha hb e = absurd (let k : 110111 ≡ 97110 = ap tag e in omega arith)
-same_answer names n (answer.Optional y) (answer.Fault z) ha hb e = absurd (let k : 110111 ≡ 102105 = ap tag e in omega arith)
-same_answer names n (answer.Optional y) (answer.Unusable z) ha hb e = absurd (let k : 110111 ≡ 110117 = ap tag e in omega arith)
-same_answer names n (answer.Array y) (answer.Number z) ha hb e = absurd (let k : 97110 ≡ 110110 = ap tag e in omega arith)
-same_answer names n (answer.Array y) (answer.Truth z) ha hb e = absurd (let k : 97110 ≡ 110116 = ap tag e in omega arith)
-same_answer names n (answer.Array y) (answer.Optional z) ha hb e = absurd (let k : 97110 ≡ 110111 = ap tag e in omega arith)
-same_answer names n (answer.Array y) (answer.Array z) ha hb e = ap answer.Array (same_integers y z ha hb (ap (λ j. items_in (first_value j)) e))
-same_answer names n (answer.Array y) (answer.Fault z) ha hb e = absurd (let k : 97110 ≡ 102105 = ap tag e in omega arith)
-same_answer names n (answer.Array y) (answer.Unusable z) ha hb e = absurd (let k : 97110 ≡ 110117 = ap tag e in omega arith)
-same_answer names n (answer.Fault y) (answer.Number z) ha hb e = absurd (let k : 102105 ≡ 110110 = ap tag e in omega arith)
-same_answer names n (answer.Fault y) (answer.Truth z) ha hb e = absurd (let k : 102105 ≡ 110116 = ap tag e in omega arith)
-same_answer names n (answer.Fault y) (answer.Optional z) ha hb e = absurd (let k : 102105 ≡ 110111 = ap tag e in omega arith)
-same_answer names n (answer.Fault y) (answer.Array z) ha hb e = absurd (let k : 102105 ≡ 97110 = ap tag e in omega arith)
+same_answer names n (answer.Truth y) (answer.Optional z) ha hb e =
+    absurd (let k : 110116 ≡ 110111 = ap tag e in omega arith)
+same_answer names n (answer.Truth y) (answer.Array z) ha hb e =
+    absurd (let k : 110116 ≡ 97110 = ap tag e in omega arith)
+same_answer names n (answer.Truth y) (answer.Fault z) ha hb e =
+    absurd (let k : 110116 ≡ 102105 = ap tag e in omega arith)
+same_answer names n (answer.Truth y) (answer.Unusable z) ha hb e =
+    absurd (let k : 110116 ≡ 110117 = ap tag e in omega arith)
+same_answer names n (answer.Optional y) (answer.Number z) ha hb e =
+    absurd (let k : 110111 ≡ 110110 = ap tag e in omega arith)
+same_answer names n (answer.Optional y) (answer.Truth z) ha hb e =
+    absurd (let k : 110111 ≡ 110116 = ap tag e in omega arith)
+same_answer names n (answer.Optional y) (answer.Optional z) ha hb e =
+    ap answer.Optional (same_optional y z ha hb (ap second_value e))
+same_answer names n (answer.Optional y) (answer.Array z) ha hb e =
+    absurd (let k : 110111 ≡ 97110 = ap tag e in omega arith)
+same_answer names n (answer.Optional y) (answer.Fault z) ha hb e =
+    absurd (let k : 110111 ≡ 102105 = ap tag e in omega arith)
+same_answer names n (answer.Optional y) (answer.Unusable z) ha hb e =
+    absurd (let k : 110111 ≡ 110117 = ap tag e in omega arith)
+same_answer names n (answer.Array y) (answer.Number z) ha hb e =
+    absurd (let k : 97110 ≡ 110110 = ap tag e in omega arith)
+same_answer names n (answer.Array y) (answer.Truth z) ha hb e =
+    absurd (let k : 97110 ≡ 110116 = ap tag e in omega arith)
+same_answer names n (answer.Array y) (answer.Optional z) ha hb e =
+    absurd (let k : 97110 ≡ 110111 = ap tag e in omega arith)
+same_answer names n (answer.Array y) (answer.Array z) ha hb e =
+    ap answer.Array (same_integers y z ha hb (ap (λ j. items_in (first_value j)) e))
+same_answer names n (answer.Array y) (answer.Fault z) ha hb e =
+    absurd (let k : 97110 ≡ 102105 = ap tag e in omega arith)
+same_answer names n (answer.Array y) (answer.Unusable z) ha hb e =
+    absurd (let k : 97110 ≡ 110117 = ap tag e in omega arith)
+same_answer names n (answer.Fault y) (answer.Number z) ha hb e =
+    absurd (let k : 102105 ≡ 110110 = ap tag e in omega arith)
+same_answer names n (answer.Fault y) (answer.Truth z) ha hb e =
+    absurd (let k : 102105 ≡ 110116 = ap tag e in omega arith)
+same_answer names n (answer.Fault y) (answer.Optional z) ha hb e =
+    absurd (let k : 102105 ≡ 110111 = ap tag e in omega arith)
+same_answer names n (answer.Fault y) (answer.Array z) ha hb e =
+    absurd (let k : 102105 ≡ 97110 = ap tag e in omega arith)
 same_answer names n (answer.Fault y) (answer.Fault z) ha hb e =
-    ap answer.Fault (same_fault y z (same_kind y.kind z.kind (ap (λ j. string_of (first_value j)) e)) (decimal_injective y.stage z.stage ha.0 hb.0 (ap (λ j. integer_of (fourth_value j)) e))
+    ap answer.Fault (same_fault y z (same_kind y.kind z.kind (ap (λ j. string_of (first_value j)) e))
+    (decimal_injective y.stage z.stage ha.0 hb.0 (ap (λ j. integer_of (fourth_value j)) e))
     (same_place y.origin z.origin ha.1 hb.1 (ap second_value e)))
-same_answer names n (answer.Fault y) (answer.Unusable z) ha hb e = absurd (let k : 102105 ≡ 110117 = ap tag e in omega arith)
-same_answer names n (answer.Unusable y) (answer.Number z) ha hb e = absurd (let k : 110117 ≡ 110110 = ap tag e in omega arith)
-same_answer names n (answer.Unusable y) (answer.Truth z) ha hb e = absurd (let k : 110117 ≡ 110116 = ap tag e in omega arith)
-same_answer names n (answer.Unusable y) (answer.Optional z) ha hb e = absurd (let k : 110117 ≡ 110111 = ap tag e in omega arith)
-same_answer names n (answer.Unusable y) (answer.Array z) ha hb e = absurd (let k : 110117 ≡ 97110 = ap tag e in omega arith)
-same_answer names n (answer.Unusable y) (answer.Fault z) ha hb e = absurd (let k : 110117 ≡ 102105 = ap tag e in omega arith)
-same_answer names n (answer.Unusable y) (answer.Unusable z) ha hb e = ap answer.Unusable (same_first names y z ha hb (ap (λ j. string_of (second_value j)) e))
+same_answer names n (answer.Fault y) (answer.Unusable z) ha hb e =
+    absurd (let k : 102105 ≡ 110117 = ap tag e in omega arith)
+same_answer names n (answer.Unusable y) (answer.Number z) ha hb e =
+    absurd (let k : 110117 ≡ 110110 = ap tag e in omega arith)
+same_answer names n (answer.Unusable y) (answer.Truth z) ha hb e =
+    absurd (let k : 110117 ≡ 110116 = ap tag e in omega arith)
+same_answer names n (answer.Unusable y) (answer.Optional z) ha hb e =
+    absurd (let k : 110117 ≡ 110111 = ap tag e in omega arith)
+same_answer names n (answer.Unusable y) (answer.Array z) ha hb e =
+    absurd (let k : 110117 ≡ 97110 = ap tag e in omega arith)
+same_answer names n (answer.Unusable y) (answer.Fault z) ha hb e =
+    absurd (let k : 110117 ≡ 102105 = ap tag e in omega arith)
+same_answer names n (answer.Unusable y) (answer.Unusable z) ha hb e =
+    ap answer.Unusable (same_first names y z ha hb (ap (λ j. string_of (second_value j)) e))
 
 -- ---- the object of each job, and all of them
 
@@ -209,7 +251,8 @@ optional_fits : (o : Option ℤ) → OptionFits o → HasNumbers (outline (optio
 optional_fits None h = tt
 optional_fits (Some z) h = integer_fits z h
 
-job_fits : (names : List (List ℕ)) (n : List ℕ) (a : Answer) → AnswerFits names a → HasNumbers (outline (job_json names n a))
+job_fits : (names : List (List ℕ)) (n : List ℕ) (a : Answer) → AnswerFits names a
+    → HasNumbers (outline (job_json names n a))
 job_fits names n (answer.Number z) h = (tt, (integer_fits z h, tt))
 job_fits names n (answer.Truth b) h = (tt, (tt, tt))
 job_fits names n (answer.Optional v) h = (tt, (optional_fits v h, tt))
@@ -232,17 +275,20 @@ job_flat names n (answer.Fault f) = place_flat f.origin
     place_flat (Some i) = omega arith
 job_flat names n (answer.Unusable i) = omega arith
 
-jobs_fit : (names ns : List (List ℕ)) (xs : List Answer) → AnswersFit names xs → ItemsHaveNumbers (items_outline (items_of (jobs_json names ns xs)))
+jobs_fit : (names ns : List (List ℕ)) (xs : List Answer) → AnswersFit names xs
+    → ItemsHaveNumbers (items_outline (items_of (jobs_json names ns xs)))
 jobs_fit names [] xs h = tt
 jobs_fit names (n ∷ ns) [] h = tt
 jobs_fit names (n ∷ ns) (a ∷ xs) h = (job_fits names n a h.0, jobs_fit names ns xs h.1)
 
-jobs_flat : (names ns : List (List ℕ)) (xs : List Answer) → items_depth (items_outline (items_of (jobs_json names ns xs))) ≤ 2
+jobs_flat : (names ns : List (List ℕ)) (xs : List Answer)
+    → items_depth (items_outline (items_of (jobs_json names ns xs))) ≤ 2
 jobs_flat names [] xs = omega arith
 jobs_flat names (n ∷ ns) [] = omega arith
 jobs_flat names (n ∷ ns) (a ∷ xs) = omega (arith, job_flat names n a, jobs_flat names ns xs)
 
-same_answers : (names ns : List (List ℕ)) (xs bs : List Answer) → length ns ≡ length xs → length ns ≡ length bs → AnswersFit names xs → AnswersFit names bs
+same_answers : (names ns : List (List ℕ)) (xs bs : List Answer) → length ns ≡ length xs → length ns ≡ length bs
+    → AnswersFit names xs → AnswersFit names bs
     → items_outline (items_of (jobs_json names ns xs)) ≡ items_outline (items_of (jobs_json names ns bs)) → xs ≡ bs
 same_answers names [] [] [] la lb ha hb e = refl
 same_answers names [] [] (b ∷ bs) la lb ha hb e = absurd (omega (arith, lb))
@@ -265,18 +311,22 @@ last_off (b ∷ []) c = refl
 last_off (b ∷ d ∷ bs) c = ap (λ (xs : List ℕ). b ∷ xs) (last_off (d ∷ bs) c)
 
 -- a report as JSON holds one list of answers
-pub one_report : (names : List (List ℕ)) (xs bs : List Answer) → length names ≡ length xs → length names ≡ length bs → AnswersFit names xs → AnswersFit names bs
+pub one_report : (names : List (List ℕ)) (xs bs : List Answer) → length names ≡ length xs → length names ≡ length bs
+    → AnswersFit names xs → AnswersFit names bs
     → report_json names xs ≡ report_json names bs → xs ≡ bs
 one_report names xs bs la lb ha hb e =
     let d = array (items_of (jobs_json names names xs)) in
     let c = array (items_of (jobs_json names names bs)) in
-    let text : compact_text d ≡ compact_text c = sym (last_off (compact_text d) 10) ∙ ap without_last e ∙ last_off (compact_text c) 10 in
+    let text : compact_text d ≡ compact_text c =
+    sym (last_off (compact_text d) 10) ∙ ap without_last e ∙ last_off (compact_text c) 10 in
     let flat_d : depth (outline d) ≤ json.max_depth = omega (arith, jobs_flat names names xs) in
     let flat_c : depth (outline c) ≤ json.max_depth = omega (arith, jobs_flat names names bs) in
-    same_answers names names xs bs la lb ha hb (ap items_in (same_outline d c (jobs_fit names names xs ha) (jobs_fit names names bs hb) flat_d flat_c text))
+    same_answers names names xs bs la lb ha hb
+    (ap items_in (same_outline d c (jobs_fit names names xs ha) (jobs_fit names names bs hb) flat_d flat_c text))
 
 -- the parts whose reports these are
-pub same_parts : (names : List (List ℕ)) (rs : List PartReport) (ps qs : List Part) → AreReportsOf names rs ps → AreReportsOf names rs qs
+pub same_parts : (names : List (List ℕ)) (rs : List PartReport) (ps qs : List Part) → AreReportsOf names rs ps
+    → AreReportsOf names rs qs
     → ArePartsSmall names ps → ArePartsSmall names qs → ps ≡ qs
 same_parts names [] [] [] hp hq sp sq = refl
 same_parts names [] [] (q ∷ qs) hp hq sp sq = absurd hq

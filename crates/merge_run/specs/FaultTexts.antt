@@ -4,7 +4,8 @@ use Rattle.report_merge.specs.FaultTexts.{unmergeable_text}
 use Rattle.merge_run.specs.declared.fault.PartCause.{PartCause}
 use Rattle.merge_run.specs.declared.fault.PartCause.TheVariants.{NoReport, Missing, MoreJobs, Impossible, Differs}
 use Rattle.merge_run.specs.declared.fault.ReportMergeFault.{ReportMergeFault}
-use Rattle.merge_run.specs.declared.fault.ReportMergeFault.TheVariants.{Jobs, Unmergeable, NoPart, Part, TooManyRows, NoMemory}
+use Rattle.merge_run.specs.declared.fault.ReportMergeFault.TheVariants.{Jobs, Unmergeable, NoPart, Part, TooManyRows}
+use Rattle.merge_run.specs.declared.fault.ReportMergeFault.TheVariants.{NoMemory}
 use Rattle.merge_run.specs.declared.running.MergeAsked.{MergeAsked}
 use Rattle.merge_run.specs.declared.running.MergeRunFault.{MergeRunFault}
 use Rattle.merge_run.specs.declared.running.MergeRunFault.TheVariants as run_fault

@@ -9,7 +9,8 @@ use Rattle.job_language.specs.declared.fault.JobFault.{JobFault}
 use Rattle.job_meaning.specs.declared.answer.Answer.{Answer}
 use Rattle.job_names.specs.JobNames.{names_of_texts}
 use Rattle.merge_run.specs.declared.fault.ReportMergeFault.{ReportMergeFault}
-use Rattle.merge_run.specs.declared.fault.ReportMergeFault.TheVariants.{Jobs, Unmergeable as CannotMerge, NoPart, Part as OfPart, TooManyRows, NoMemory}
+use Rattle.merge_run.specs.declared.fault.ReportMergeFault.TheVariants.{Jobs, Unmergeable as CannotMerge, NoPart}
+use Rattle.merge_run.specs.declared.fault.ReportMergeFault.TheVariants.{Part as OfPart, TooManyRows, NoMemory}
 use Rattle.merge_run.specs.declared.fault.PartCause.{PartCause}
 use Rattle.merge_run.specs.declared.fault.PartCause.TheVariants.{NoReport, Missing, MoreJobs, Impossible, Differs}
 use Rattle.merge_run.specs.declared.part_report.PartReport.{PartReport}
@@ -41,9 +42,11 @@ AreReportsOf names [] (p ∷ ps) = ⊥
 AreReportsOf names (r ∷ rs) [] = ⊥
 AreReportsOf names (r ∷ rs) (p ∷ ps) = IsReportOf names r p × AreReportsOf names rs ps
 
--- the file gives the columns of a table that has these parts, and their answers are what the jobs of these bytes mean over
+-- the file gives the columns of a table that has these parts, and their answers are what the jobs of these bytes mean
+-- over
 -- them, all read as it is asked for; the jobs of the list are over columns without cells
-pub record IsTableOf (asked : Asked) (bytes : List ℕ) (jobs : List AbstractJob) (parts : List Part) (file : List ℕ) : Type 0 where
+pub record IsTableOf (asked : Asked) (bytes : List ℕ) (jobs : List AbstractJob) (parts : List Part)
+    (file : List ℕ) : Type 0 where
   pub over : List AbstractJob
   pub cut : IsCut (form_for asked bytes) asked.newest bytes jobs parts over
   pub read : cells_by (form_for asked bytes) file ≡ table_by (form_for asked bytes) (cut.header ∷ all_rows cut.tables)
@@ -53,9 +56,11 @@ abbrev pub ArePossible : List AbstractJob → List Part → Type 0
 ArePossible jobs [] = Unit {0}
 ArePossible jobs (p ∷ ps) = (first_impossible jobs p ≡ None) × ArePossible jobs ps
 
--- the report of what the answers of the parts are merged to: for each table with parts whose answers of 64 bits the reports
+-- the report of what the answers of the parts are merged to: for each table with parts whose answers of 64 bits the
+-- reports
 -- hold, however tables are read, it is the report of a run over this table that reads it so
-pub record IsMergeOf (newest : ℕ) (jobs : List AbstractJob) (reports : List PartReport) (form : Form) (report : List ℕ) : Type 0 where
+pub record IsMergeOf (newest : ℕ) (jobs : List AbstractJob) (reports : List PartReport) (form : Form)
+    (report : List ℕ) : Type 0 where
   pub mergeable : first_unmergeable jobs ≡ None
   pub parts : List Part
   pub read : AreReportsOf (names_of jobs) reports parts
@@ -65,8 +70,13 @@ pub record IsMergeOf (newest : ℕ) (jobs : List AbstractJob) (reports : List Pa
   pub whole : merged jobs parts ≡ Some answers
   pub written : report ≡ report_in form (names_of jobs) answers
   pub of_table : (qs : List Part) → AreReportsOf (names_of jobs) reports qs → ArePartsSmall (names_of jobs) qs
-      → (table : TableSetting) (bytes file : List ℕ) → IsTableOf (record { form = form; newest = newest; table = table }) bytes jobs qs file
-      → IsReport (record { columns = Some file; jobs = bytes; asked = record { form = form; newest = newest; table = table } }) report
+      → (table : TableSetting) (bytes file : List ℕ)
+      → IsTableOf (record { form = form; newest = newest; table = table }) bytes jobs qs file
+      → IsReport (record {
+        columns = Some file;
+        jobs = bytes;
+        asked = record { form = form; newest = newest; table = table };
+      }) report
 
 -- the columns that a job file names, without cells
 abbrev pub columns_named : ℕ → List ℕ → List NamedColumn
@@ -74,7 +84,8 @@ columns_named newest bytes = map bare (names_of_texts (job_texts_within newest b
 
 -- the report that the reports of parts are merged to; the bytes of a job file spell the jobs over the columns that it
 -- names, without cells
-pub record IsMerged (newest : ℕ) (bytes : List ℕ) (reports : List PartReport) (form : Form) (report : List ℕ) : Type 0 where
+pub record IsMerged (newest : ℕ) (bytes : List ℕ) (reports : List PartReport) (form : Form) (report : List ℕ) : Type
+    0 where
   pub jobs : List AbstractJob
   pub spelled : SpellsJobsWithin newest bytes (columns_named newest bytes) jobs
   pub merge : IsMergeOf newest jobs reports form report
@@ -105,8 +116,10 @@ pub record HasNoReport (jobs : List AbstractJob) (reports : List PartReport) (nu
   pub at : IsReportAt reports number report
   pub none : IsReportOfNone (names_of jobs) report.bytes.items
 
--- the report with this index says answers of which that of the job with this name is the first one that can't be its own
-pub record HasImpossible (jobs : List AbstractJob) (reports : List PartReport) (number : ℕ) (name : List ℕ) : Type 0 where
+-- the report with this index says answers of which that of the job with this name is the first one that can't be its
+-- own
+pub record HasImpossible (jobs : List AbstractJob) (reports : List PartReport) (number : ℕ) (name : List ℕ) : Type
+    0 where
   pub report : PartReport
   pub at : IsReportAt reports number report
   pub part : Part
@@ -115,9 +128,11 @@ pub record HasImpossible (jobs : List AbstractJob) (reports : List PartReport) (
   pub first : first_impossible jobs part ≡ Some place
   pub named : slice_index_or (names_of jobs) place [] ≡ name
 
--- each report says answers that its jobs can have; those of the report with this index can't be merged with the answers of
+-- each report says answers that its jobs can have; those of the report with this index can't be merged with the answers
+-- of
 -- the reports before it, and the job with this name is the first one for which they can't
-pub record HasDifferent (jobs : List AbstractJob) (reports : List PartReport) (number : ℕ) (name : List ℕ) : Type 0 where
+pub record HasDifferent (jobs : List AbstractJob) (reports : List PartReport) (number : ℕ) (name : List ℕ) : Type
+    0 where
   pub parts : List Part
   pub read : AreReportsOf (names_of jobs) reports parts
   pub small : ArePartsSmall (names_of jobs) parts
@@ -162,7 +177,8 @@ called names answers_fault.NoMemory = NoMemory
 called names (answers_fault.Part part job) = OfPart part (Differs (slice_index_or names job []))
 
 -- over the columns that they name, without cells, the bytes spell jobs for which this is why there is no report
-pub record IsRefusalOver (newest : ℕ) (bytes : List ℕ) (reports : List PartReport) (fault : ReportMergeFault) : Type 0 where
+pub record IsRefusalOver (newest : ℕ) (bytes : List ℕ) (reports : List PartReport) (fault : ReportMergeFault) : Type
+    0 where
   pub jobs : List AbstractJob
   pub spelled : SpellsJobsWithin newest bytes (columns_named newest bytes) jobs
   pub refused : IsRefusalOf jobs reports fault

@@ -1,5 +1,6 @@
 -- Condition: the bytes of a report as JSON, as a reader comes upon them.
-use Rattle.std.specs.Prelude.{◌≡◌, ℕ, ℤ, Bool, true, false, List, [], ◌∷◌, ◌++◌, Option, None, Some, codes, slice_index_or}
+use Rattle.std.specs.Prelude.{◌≡◌, ℕ, ℤ, Bool, true, false, List, [], ◌∷◌, ◌++◌, Option, None, Some, codes}
+use Rattle.std.specs.Prelude.{slice_index_or}
 use Rattle.std.specs.Fmt.{decimal, signed_decimal}
 use Rattle.job_meaning.specs.declared.answer.Answer.{Answer}
 use Rattle.job_meaning.specs.declared.answer.Answer.TheVariants as answer
@@ -19,7 +20,8 @@ abbrev pub truth_then : Bool → List ℕ → List ℕ
 truth_then true rest = codes "true}" ++ rest
 truth_then false rest = codes "false}" ++ rest
 
--- what stands after the name of a job and its quote, and what follows its object, if its answer is no array and no fault
+-- what stands after the name of a job and its quote, and what follows its object, if its answer is no array and no
+-- fault
 abbrev pub said_then : List (List ℕ) → Answer → List ℕ → List ℕ
 said_then names (answer.Number v) rest = codes ",\"number\":" ++ (signed_decimal v ++ 125 ∷ rest)
 said_then names (answer.Truth b) rest = codes ",\"truth\":" ++ truth_then b rest
@@ -44,7 +46,9 @@ array_then name vs rest = parted vs ++ 93 ∷ (codes ",\"name\":\"" ++ (name ++ 
 -- helper: a fault, the name of its job, and what follows its object
 abbrev pub fault_then : List ℕ → Fault → List ℕ → List ℕ
 fault_then name f rest =
-    codes "\"" ++ (kind_text f.kind ++ 34 ∷ (codes ",\"item\":" ++ place_then f.origin (codes ",\"name\":\"" ++ (name ++ 34 ∷ (codes ",\"stage\":" ++ (decimal f.stage ++ 125 ∷ rest))))))
+    codes "\"" ++ (kind_text f.kind ++ 34
+    ∷ (codes ",\"item\":" ++ place_then f.origin
+    (codes ",\"name\":\"" ++ (name ++ 34 ∷ (codes ",\"stage\":" ++ (decimal f.stage ++ 125 ∷ rest))))))
 
 -- helper: the name of a job, its answer, and what follows its object, given the names of all jobs
 abbrev pub named_then : List (List ℕ) → List ℕ → Answer → List ℕ → List ℕ
@@ -61,7 +65,8 @@ object_then names name (answer.Unusable i) rest = named_then names name (answer.
 
 -- the objects of jobs and the end of a report, after some objects or none, given the names of all jobs
 abbrev pub objects_then : List (List ℕ) → Bool → List (List ℕ) → List Answer → List ℕ
-objects_then names later (n ∷ ns) (a ∷ more) = comma_if later ++ 123 ∷ object_then names n a (objects_then names true ns more)
+objects_then names later (n ∷ ns) (a ∷ more) =
+    comma_if later ++ 123 ∷ object_then names n a (objects_then names true ns more)
 objects_then names later ns more = codes "]\n"
 
 -- this object was read, and this is left

@@ -1,5 +1,6 @@
 -- Design: what a run of the program that merges reports writes, of what its files hold, and its status.
-use Rattle.std.specs.Prelude.{◌≡◌, ℕ, ◌<◌, List, [], ◌∷◌, length, map, take, slice_index_or, Option, IfErr, IfSome, OnOk, Result, Ok, Err}
+use Rattle.std.specs.Prelude.{◌≡◌, ℕ, ◌<◌, List, [], ◌∷◌, length, map, take, slice_index_or, Option, IfErr, IfSome}
+use Rattle.std.specs.Prelude.{OnOk, Result, Ok, Err}
 use Rattle.std.specs.Io.KnownBytes.{Appends, Keeps}
 use Rattle.counted_io.specs.FailureCounts.{HasRisen}
 use Rattle.merge_run.specs.declared.fault.ReportMergeFault.{ReportMergeFault}
@@ -29,10 +30,12 @@ abbrev pub AreReports : {R : Type 0} → (R → Option (List ℕ)) → List (Par
 AreReports remaining [] [] = Unit {0}
 AreReports remaining [] (r ∷ rs) = ⊥
 AreReports remaining (f ∷ fs) [] = ⊥
-AreReports remaining (f ∷ fs) (r ∷ rs) = (r.rows ≡ f.rows) × IsWhole (remaining f.file) r.bytes.items × AreReports remaining fs rs
+AreReports remaining (f ∷ fs) (r ∷ rs) =
+    (r.rows ≡ f.rows) × IsWhole (remaining f.file) r.bytes.items × AreReports remaining fs rs
 
 -- this is what a run is given: what its files have left, and what is asked for
-pub record IsGiven {R : Type 0} (remaining : R → Option (List ℕ)) (jobs : Option (List ℕ)) (parts : List (PartFile R)) (asked : MergeAsked) (input : MergeInput) : Type 0 where
+pub record IsGiven {R : Type 0} (remaining : R → Option (List ℕ)) (jobs : Option (List ℕ)) (parts : List (PartFile R))
+    (asked : MergeAsked) (input : MergeInput) : Type 0 where
   pub job_file : IsWhole jobs input.jobs
   pub part_files : AreReports remaining parts input.reports
   pub newest_read : input.newest ≡ newest_in asked.language
@@ -40,18 +43,21 @@ pub record IsGiven {R : Type 0} (remaining : R → Option (List ℕ)) (jobs : Op
 
 -- a writer that held these bytes before and those after took the merged report and nothing else
 abbrev pub Reported : MergeInput → Option (List ℕ) → Option (List ℕ) → Type 0
-Reported input before after = (report : List ℕ) × IsMerged input.newest input.jobs input.reports input.form report × Appends before after report
+Reported input before after = (report : List ℕ) × IsMerged input.newest input.jobs input.reports input.form report
+    × Appends before after report
 
 -- the first bytes of the merged report went out and no others
 abbrev pub IsCutOff : MergeInput → Option (List ℕ) → Option (List ℕ) → ℕ → Type 0
 IsCutOff input before after n =
-    (report : List ℕ) × IsMerged input.newest input.jobs input.reports input.form report × (n < length report) × Appends before after (take n report)
+    (report : List ℕ) × IsMerged input.newest input.jobs input.reports input.form report × (n < length report)
+    × Appends before after (take n report)
 
 -- what a fault other than a failed write says of what is given
 abbrev pub Says : (MergeInput → Type 0) → MergeRunFault → Type 0
 Says given JobsRead = Unit {0}
 Says given (ReportRead part) = Unit {0}
-Says given (Merge fault) = (input : MergeInput) × given input × IsMergeRefusal input.newest input.jobs input.reports fault
+Says given (Merge fault) = (input : MergeInput) × given input
+    × IsMergeRefusal input.newest input.jobs input.reports fault
 Says given (Write n) = ⊥
 Says given NoMemory = Unit {0}
 
@@ -62,9 +68,11 @@ Faulted given before after (Write n) = (input : MergeInput) × given input × Is
 Faulted given before after fault = Says given fault × Keeps before after
 
 -- the answer of a run that is given this, and a writer that held these bytes before and those after
-abbrev pub IsAnswered : {X : Type 0} → (MergeInput → Type 0) → Option (List ℕ) → Option (List ℕ) → Result X MergeRunFault → Type 0
+abbrev pub IsAnswered : {X : Type 0} → (MergeInput → Type 0) → Option (List ℕ) → Option (List ℕ)
+    → Result X MergeRunFault → Type 0
 IsAnswered given before after answer =
-    OnOk answer ((input : MergeInput) × given input × Reported input before after) × IfErr answer (Faulted given before after)
+    OnOk answer ((input : MergeInput) × given input × Reported input before after)
+    × IfErr answer (Faulted given before after)
 
 -- how often the job file, the files of the parts and the writer have failed
 pub record FailureCounts : Type 0 where
@@ -74,12 +82,14 @@ pub record FailureCounts : Type 0 where
 
 -- helper: these counts, by the count of a file
 abbrev pub counts_of : {R : Type 0} → (R → ℕ) → ℕ → List (PartFile R) → ℕ → FailureCounts
-counts_of failures jobs parts writer = record { jobs = jobs; parts = map (λ part. failures part.file) parts; writer = writer }
+counts_of failures jobs parts writer = record
+    { jobs = jobs; parts = map (λ part. failures part.file) parts; writer = writer }
 
 -- what a fault says of these counts before a run and after it: the file that couldn't be read has failed, or the writer
 abbrev pub HasFailed : FailureCounts → FailureCounts → MergeRunFault → Type 0
 HasFailed before after JobsRead = HasRisen before.jobs after.jobs
-HasFailed before after (ReportRead part) = HasRisen (slice_index_or before.parts part 0) (slice_index_or after.parts part 0)
+HasFailed before after (ReportRead part) =
+    HasRisen (slice_index_or before.parts part 0) (slice_index_or after.parts part 0)
 HasFailed before after (Merge fault) = Unit {0}
 HasFailed before after (Write n) = HasRisen before.writer after.writer
 HasFailed before after NoMemory = Unit {0}

@@ -7,6 +7,8 @@
 //! Begin with `specs/Merged.antt`, then `merging.rt`; `part_answers.rt` reads a report, `running.rt` files.
 //! Not promised: that the reports are those of the parts of one table, in order, that no job file is refused which
 //! could be merged, or that there is memory.
+//!
+//! Tested: runs of the programs in `tests`.
 #![tactic(auto)]
 
 mod fault;

@@ -9,9 +9,11 @@ use Rattle.pending_count.specs.Views.{InRange, joined_view, rest_view, part_view
 use Rattle.pending_count.proofs.SumLemmas.{one_at, total-append, total-minus}
 use Rattle.pending_count.proofs.RecordLemmas.{copies_fit}
 
-module _ {T : Type 0} (n node k c : ℕ) (l : List ℕ) (v : View T) (have : k ≤ count node v.held) (low : InRange n v) where
+module _ {T : Type 0} (n node k c : ℕ) (l : List ℕ) (v : View T) (have : k ≤ count node v.held)
+    (low : InRange n v) where
   pub rest_ranged : InRange n (rest_view node k c l v)
-  rest_ranged i h = low i (let a = total-minus (one_at i) (copies k node) v.held (copies_fit node k v.held have) in omega arith)
+  rest_ranged i h = low i (let a = total-minus (one_at i) (copies k node) v.held (copies_fit node k v.held have) in
+      omega arith)
 
   pub part_ranged : InRange n (part_view node k c l v)
   part_ranged i h = low i (let a = copies_fit node k v.held have i in omega arith)

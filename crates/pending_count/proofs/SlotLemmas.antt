@@ -1,5 +1,6 @@
 -- How the slots of a token change as the last of two arrivals takes its values out of them.
-use Rattle.std.proofs.Common.{◌≡◌, ℕ, zero, suc, ◌-◌, ◌<◌, Bool, true, false, not, List, [], ◌∷◌, ◌++◌, sym, refl, ap, ◌∙◌, subst, arith, Option, Some, None}
+use Rattle.std.proofs.Common.{◌≡◌, ℕ, zero, suc, ◌-◌, ◌<◌, Bool, true, false, not, List, [], ◌∷◌, ◌++◌, sym, refl, ap}
+use Rattle.std.proofs.Common.{◌∙◌, subst, arith, Option, Some, None}
 use Rattle.std.proofs.lemmas.Grind.{common_steps}
 use Rattle.atomic_table.specs.Table.{Me, rest, turned}
 use Rattle.completion_core.specs.declared.action.Reply.TheVariants.{Pending, Last}
@@ -17,20 +18,26 @@ module _ {A : Type 0} where
   head_of d [] = d
   head_of d (x ∷ xs) = x.1
 
-  pub head_value : (l : List (ℕ × A)) (s s' : ℕ) (a b : A) (xs ys : List (ℕ × A)) → l ≡ (s, a) ∷ xs → l ≡ (s', b) ∷ ys → a ≡ b
+  pub head_value : (l : List (ℕ × A)) (s s' : ℕ) (a b : A) (xs ys : List (ℕ × A)) → l ≡ (s, a) ∷ xs → l ≡ (s', b) ∷ ys
+      → a ≡ b
   head_value l s s' a b xs ys e f = ap (head_of a) (sym e ∙ f)
 
   -- the slot in front, by the number that the code gives it
-  pub in_front : (l : List (ℕ × A)) (s s' : ℕ) (a : A) (xs : List (ℕ × A)) → s ≡ s' → l ≡ (s, a) ∷ xs → l ≡ (s', a) ∷ rest l
+  pub in_front : (l : List (ℕ × A)) (s s' : ℕ) (a : A) (xs : List (ℕ × A)) → s ≡ s' → l ≡ (s, a) ∷ xs
+      → l ≡ (s', a) ∷ rest l
   in_front l s s' a xs is e = e ∙ (λ q. (is q, a) ∷ xs) ∙ ap (λ k. (s', a) ∷ k) (sym (ap rest e))
 
-  pub after_turn : (l l' l'' : List (ℕ × A)) (x y : ℕ × A) (xs : List (ℕ × A)) (s : ℕ) (n : A) → l ≡ x ∷ y ∷ xs → l' ≡ (s, n) ∷ rest l → l'' ≡ turned l' → l'' ≡ y ∷ (xs ++ (s, n) ∷ [])
+  pub after_turn : (l l' l'' : List (ℕ × A)) (x y : ℕ × A) (xs : List (ℕ × A)) (s : ℕ) (n : A) → l ≡ x ∷ y ∷ xs
+      → l' ≡ (s, n) ∷ rest l → l'' ≡ turned l' → l'' ≡ y ∷ (xs ++ (s, n) ∷ [])
   after_turn l l' l'' x y xs s n e f g = g ∙ ap turned (f ∙ ap (λ k. (s, n) ∷ rest k) e)
 
 module _ {S T : Type 0} where
   -- a token's slots and view once a slot was taken and filled
-  pub loaded : (slot own slot' : ℕ) (m0 m1 m2 : Me (Option S) (View T)) (x : Option S) → slot ≡ slot' → own ≡ slot' → m1.0 ≡ taken_view slot m0.0 → m2 ≡ (m1.0, (own, x) ∷ rest m1.1) → m2 ≡ (taken_view slot' m0.0, (slot', x) ∷ rest m1.1)
-  loaded slot own slot' m0 m1 m2 x is is' taken e = e ∙ (λ q. ((taken ∙ ap (λ k. taken_view k m0.0) is) q, (is' q, x) ∷ rest m1.1))
+  pub loaded : (slot own slot' : ℕ) (m0 m1 m2 : Me (Option S) (View T)) (x : Option S) → slot ≡ slot' → own ≡ slot'
+      → m1.0 ≡ taken_view slot m0.0 → m2 ≡ (m1.0, (own, x) ∷ rest m1.1)
+      → m2 ≡ (taken_view slot' m0.0, (slot', x) ∷ rest m1.1)
+  loaded slot own slot' m0 m1 m2 x is is' taken e =
+      e ∙ (λ q. ((taken ∙ ap (λ k. taken_view k m0.0) is) q, (is' q, x) ∷ rest m1.1))
 
 module _ {V K : Type 0} where
   abbrev value_of : V → Option (Slot V K) → V
@@ -50,9 +57,13 @@ module _ {V K : Type 0} where
   kept_is o x y e f = ap (kept_of x) (sym e ∙ f)
 
 -- by whether the own side is the left one
-pub by_side : {V T : Type 0} (fits : T → Side → V → Type 0) (tag : T) (b : Bool) (ours theirs l r : V) → (b ≡ true → (l ≡ ours) × (r ≡ theirs)) → (b ≡ false → (l ≡ theirs) × (r ≡ ours)) → fits tag (side_of b) ours → fits tag (side_of (not b)) theirs → fits tag Left l × fits tag Right r
-by_side fits tag true ours theirs l r p q x y = let h = p refl in (subst (fits tag Left) (sym h.0) x, subst (fits tag Right) (sym h.1) y)
-by_side fits tag false ours theirs l r p q x y = let h = q refl in (subst (fits tag Left) (sym h.0) y, subst (fits tag Right) (sym h.1) x)
+pub by_side : {V T : Type 0} (fits : T → Side → V → Type 0) (tag : T) (b : Bool) (ours theirs l r : V)
+    → (b ≡ true → (l ≡ ours) × (r ≡ theirs)) → (b ≡ false → (l ≡ theirs) × (r ≡ ours)) → fits tag (side_of b) ours
+    → fits tag (side_of (not b)) theirs → fits tag Left l × fits tag Right r
+by_side fits tag true ours theirs l r p q x y = let h = p refl in
+    (subst (fits tag Left) (sym h.0) x, subst (fits tag Right) (sym h.1) y)
+by_side fits tag false ours theirs l r p q x y = let h = q refl in
+    (subst (fits tag Left) (sym h.0) y, subst (fits tag Right) (sym h.1) x)
 
 pub answers_pending : (n : ℕ) → 0 < n → (n ≡ 1 → ⊥) → Pending (n - 2) ≡ reply_of_arrival (n - 1)
 answers_pending zero h m = absurd (omega arith)

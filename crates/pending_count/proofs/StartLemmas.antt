@@ -1,5 +1,6 @@
 -- The table at the start.
-use Rattle.std.proofs.Common.{◌≡◌, ◌≢◌, ℕ, zero, suc, ◌+◌, ◌<◌, ◌≤◌, cond, true, List, [], ◌∷◌, length, get_or, sym, refl, ap, ◌∙◌, subst, arith, ne_eqb, true≢false, Some, replicate}
+use Rattle.std.proofs.Common.{◌≡◌, ◌≢◌, ℕ, zero, suc, ◌+◌, ◌<◌, ◌≤◌, cond, true, List, [], ◌∷◌, length, get_or, sym}
+use Rattle.std.proofs.Common.{refl, ap, ◌∙◌, subst, arith, ne_eqb, true≢false, Some, replicate}
 use mathlib.Core.Logic.{dite}
 use native.Mathlib.Decide.{ℕ_discrete}
 use Rattle.atomic_table.specs.Table.{opening}
@@ -38,8 +39,10 @@ module _ (S T : Type 0) (nodes ends : ℕ) where
 
   first_holds : (a i : ℕ) → count i (view_at views' a).held ≡ amount (Held a) (g.arrivals i)
   first_holds zero zero = total-ones (one_at 0) ends 0 refl ∙ sym (total-ones (one_same (Held 0)) ends (Held 0) refl)
-  first_holds zero (suc i) = total-zeros (one_at (suc i)) ends 0 (at_else (suc i) 0 (λ e. absurd (omega arith))) ∙ sym (ap (amount (Held 0)) (at_first (suc i) (λ e. absurd (omega arith))))
-  first_holds (suc a) zero = sym (total-zeros (one_same (Held (suc a))) ends (Held 0) (one_held (suc a) 0 (λ e. absurd (omega arith))))
+  first_holds zero (suc i) = total-zeros (one_at (suc i)) ends 0 (at_else (suc i) 0 (λ e. absurd (omega arith)))
+      ∙ sym (ap (amount (Held 0)) (at_first (suc i) (λ e. absurd (omega arith))))
+  first_holds (suc a) zero = sym (total-zeros (one_same (Held (suc a))) ends (Held 0)
+      (one_held (suc a) 0 (λ e. absurd (omega arith))))
   first_holds (suc a) (suc i) = sym (ap (amount (Held (suc a))) (at_first (suc i) (λ e. absurd (omega arith))))
 
   first_words : (i : ℕ) → i ≤ nodes → get_or words' i 0 ≡ left (g.arrivals i)
@@ -105,8 +108,13 @@ module _ (S T : Type 0) (nodes ends : ℕ) where
       }
 
 -- the first seat holds arrivals at END alone
-pub first_ranged : {T : Type 0} (words ends : ℕ) (v : View T) → v ≡ first_view ends → (n : ℕ) → words ≡ n + 2 → InRange n v
-first_ranged words ends v is n e = subst (λ u. InRange n u) (sym is) (λ i h. dite (ℕ_discrete i 0) (λ z. omega arith) (λ m. let q = total-zeros (one_at i) ends 0 (at_else i 0 (λ e. m (sym e))) in absurd (omega arith)))
+pub first_ranged : {T : Type 0} (words ends : ℕ) (v : View T) → v ≡ first_view ends → (n : ℕ) → words ≡ n + 2
+    → InRange n v
+first_ranged words ends v is n e = subst (λ u. InRange n u) (sym is)
+    (λ i h. dite (ℕ_discrete i 0) (λ z. omega arith)
+    (λ m. let q = total-zeros (one_at i) ends 0 (at_else i 0 (λ e. m (sym e))) in absurd (omega arith)))
 
 pub opened_as : (S : Type 0) {T : Type 0} (nodes ends : ℕ) (v : View T) → v ≡ first_view ends → IsOpened S nodes ends v
-opened_as S {T} nodes ends v is slots = subst (λ u. Shows nodes (opening (ends ∷ replicate (nodes + 1) 0) slots u) (start nodes ends)) (sym is) (opens S T nodes ends slots)
+opened_as S {T} nodes ends v is slots = subst
+    (λ u. Shows nodes (opening (ends ∷ replicate (nodes + 1) 0) slots u) (start nodes ends)) (sym is)
+    (opens S T nodes ends slots)

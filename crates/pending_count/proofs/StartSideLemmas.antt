@@ -1,5 +1,6 @@
 -- At the start no node is a pair, and all slots are at home and empty.
-use Rattle.std.proofs.Common.{◌≡◌, ℕ, zero, suc, ◌+◌, ◌*◌, ◌<◌, ◌≤◌, Bool, true, false, List, [], ◌∷◌, length, sym, refl, subst, arith, true≢false, Option, Some, None}
+use Rattle.std.proofs.Common.{◌≡◌, ℕ, zero, suc, ◌+◌, ◌*◌, ◌<◌, ◌≤◌, Bool, true, false, List, [], ◌∷◌, length, sym}
+use Rattle.std.proofs.Common.{refl, subst, arith, true≢false, Option, Some, None}
 use mathlib.Core.Option.{none, some}
 use mathlib.Core.Option as mc
 use lib.ListN.{get_elem?}
@@ -19,7 +20,8 @@ use Rattle.pending_count.specs.Views.{first_view}
 use Rattle.pending_count.specs.Pairs.{Ruled}
 use Rattle.pending_count.proofs.StartLemmas.{opens}
 
-module _ {V K T : Type 0} (fits : T → Side → V → Type 0) (tag_of : K → T) (place_of : K → Option (Place T)) (nodes ends : ℕ) where
+module _ {V K T : Type 0} (fits : T → Side → V → Type 0) (tag_of : K → T) (place_of : K → Option (Place T))
+    (nodes ends : ℕ) where
   abbrev empty_slots : ℕ → List (Option (Slot V K))
   empty_slots n = replicate n None
 
@@ -62,7 +64,8 @@ module _ {V K T : Type 0} (fits : T → Side → V → Type 0) (tag_of : K → T
   side_low i true h = omega arith
   side_low i false h = omega arith
 
-  pub opens_sides : Pairing fits tag_of place_of nodes homes views' (start nodes ends).arrivals (λ _. false) (λ _. false)
+  pub opens_sides : Pairing fits tag_of place_of nodes homes views' (start nodes ends).arrivals (λ _. false)
+      (λ _. false)
   opens_sides = record {
     tag = λ _. None;
     side = λ _. Made;
@@ -74,7 +77,11 @@ module _ {V K T : Type 0} (fits : T → Side → V → Type 0) (tag_of : K → T
     };
     mine = λ a k. no_sides a k;
     keeping = record { records = λ i. refl; keeping = λ i k e. refl; spent = λ i k e. absurd (true≢false (sym e)) };
-    noting = record { noted = λ a i l e. absurd (no_noted a i l e); tags = λ a i t e. absurd (no_tags a i t e); placed = λ a i q e. absurd (no_places a i q e) };
+    noting = record {
+      noted = λ a i l e. absurd (no_noted a i l e);
+      tags = λ a i t e. absurd (no_tags a i t e);
+      placed = λ a i q e. absurd (no_places a i q e);
+    };
     slotted = record {
       room = long (3 * (nodes + 1));
       once = λ a k. let h = no_taken a k in omega arith;
@@ -87,5 +94,8 @@ module _ {V K T : Type 0} (fits : T → Side → V → Type 0) (tag_of : K → T
     };
   }
 
-  pub opens_all : (ws : List ℕ) → ws ≡ ends ∷ replicate (nodes + 1) 0 → Ruled fits tag_of place_of nodes (opening ws (empty_slots (3 * (nodes + 1))) (first_view ends))
-  opens_all ws is = subst (λ ws. Ruled fits tag_of place_of nodes (opening ws (empty_slots (3 * (nodes + 1))) (first_view ends))) (sym is) (start nodes ends, opens (Option (Slot V K)) T nodes ends (empty_slots (3 * (nodes + 1))), opens_sides)
+  pub opens_all : (ws : List ℕ) → ws ≡ ends ∷ replicate (nodes + 1) 0
+      → Ruled fits tag_of place_of nodes (opening ws (empty_slots (3 * (nodes + 1))) (first_view ends))
+  opens_all ws is = subst (λ ws. Ruled fits tag_of place_of nodes
+      (opening ws (empty_slots (3 * (nodes + 1))) (first_view ends))) (sym is)
+      (start nodes ends, opens (Option (Slot V K)) T nodes ends (empty_slots (3 * (nodes + 1))), opens_sides)

@@ -18,9 +18,11 @@ use Rattle.pending_count.specs.Seats.{view_of}
 
 module _ {V K : Type 0} where
   -- the slots that a token has after the last arrival: in front the kept value's, then the other side's, then its own
-  pub record HasAll (node : ℕ) (is_left : Bool) (kept : K) (theirs ours : V) (slots : List (ℕ × Option (Slot V K))) : Type 0 where
+  pub record HasAll (node : ℕ) (is_left : Bool) (kept : K) (theirs ours : V)
+      (slots : List (ℕ × Option (Slot V K))) : Type 0 where
     pub more : List (ℕ × Option (Slot V K))
-    pub is : slots ≡ (kept_slot node, Some (KeptValue kept)) ∷ (side_slot node (not is_left), Some (Value theirs)) ∷ (side_slot node is_left, Some (Value ours)) ∷ more
+    pub is : slots ≡ (kept_slot node, Some (KeptValue kept)) ∷ (side_slot node (not is_left), Some (Value theirs))
+        ∷ (side_slot node is_left, Some (Value ours)) ∷ more
 
   -- the two values, each on its side, and the kept one
   pub record IsInOrder (is_left : Bool) (kept : K) (theirs ours : V) (finish : FinishPair V K) : Type 0 where
@@ -43,5 +45,7 @@ module _ {V K T : Type 0} {g : Ghosts K V T} where
   abbrev pub IsClosed : (node slot : ℕ) → T → View T → ArrivedPair V K T g → Type 0
   IsClosed node slot tag v (handed.Pending seat pending) = ⊤
   IsClosed node slot tag v (handed.Last seat finish) =
-      (kept kept_sides : List ℕ) × (view_of seat ≡ closed_view node slot kept kept_sides (tags_after (g.place_of finish.kept) v.tags) v)
-      × g.fits tag Left finish.left × g.fits tag Right finish.right × IsKept g.fits g.tag_of g.place_of node tag v finish.kept kept kept_sides
+      (kept kept_sides : List ℕ) × (view_of seat
+      ≡ closed_view node slot kept kept_sides (tags_after (g.place_of finish.kept) v.tags) v)
+      × g.fits tag Left finish.left × g.fits tag Right finish.right
+      × IsKept g.fits g.tag_of g.place_of node tag v finish.kept kept kept_sides

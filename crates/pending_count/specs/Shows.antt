@@ -31,7 +31,8 @@ module _ {T : Type 0} where
 
   -- the words are the numbers of arrivals owed and not made, the claim word counts the claims; claims, credits and
   -- additions together are the whole credit
-  pub record Counting (nodes : ℕ) (words : List ℕ) (views : List (View T)) (drawn : ℕ) (arrivals : ℕ → List Arrival) : Type 0 where
+  pub record Counting (nodes : ℕ) (words : List ℕ) (views : List (View T)) (drawn : ℕ)
+      (arrivals : ℕ → List Arrival) : Type 0 where
     pub size : length words ≡ nodes + 2
     pub draws : drawn ≡ min (slice_index words (nodes + 1)) nodes
     pub paid : slice_index words (nodes + 1) + total (λ v. v.credit) views + additions views ≡ whole_credit
@@ -44,7 +45,8 @@ module _ {T : Type 0} where
 
   -- a view has the nodes that its actor claimed and that aren't armed, each once
   pub record Claiming (views : List (View T)) (drawn : ℕ) (claimer : ℕ → ℕ) (armed : ℕ → Bool) : Type 0 where
-    pub drew : (a i : ℕ) → 0 < count i (view_at views a).claims → (0 < i) × (i ≤ drawn) × (claimer i ≡ a) × (armed i ≡ false)
+    pub drew : (a i : ℕ) → 0 < count i (view_at views a).claims
+        → (0 < i) × (i ≤ drawn) × (claimer i ≡ a) × (armed i ≡ false)
     pub once : (a i : ℕ) → 0 < i → i ≤ drawn → claimer i ≡ a → armed i ≡ false → count i (view_at views a).claims ≡ 1
 
   -- the records name the armed nodes, each once, and what those that haven't run keep
@@ -55,7 +57,8 @@ module _ {T : Type 0} where
 
   -- what was noted is so: what a node was given, the least that END's word has shown, and that no node was left to draw
   pub record Noting (nodes : ℕ) (words : List ℕ) (views : List (View T)) (armed : ℕ → Bool) : Type 0 where
-    pub noted : (a i : ℕ) (kept : List ℕ) → note_of i (view_at views a).noted ≡ Some kept → (armed i ≡ true) × ((j : ℕ) → count j kept ≡ kept_at i j views)
+    pub noted : (a i : ℕ) (kept : List ℕ) → note_of i (view_at views a).noted ≡ Some kept
+        → (armed i ≡ true) × ((j : ℕ) → count j kept ≡ kept_at i j views)
     pub seen : (a n : ℕ) → (view_at views a).seen ≡ Some n → slice_index words 0 ≤ n
     pub exhausted : (a : ℕ) → (view_at views a).none_left ≡ true → nodes ≤ slice_index words (nodes + 1)
 

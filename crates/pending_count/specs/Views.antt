@@ -1,5 +1,6 @@
 -- Design: what a seat knows, and how each call changes it.
-use Rattle.std.specs.Prelude.{◌≡◌, ℕ, ◌+◌, ◌-◌, ◌*◌, ◌^◌, ◌<◌, ◌≤◌, ◌==◌, min, true, false, List, [], ◌∷◌, ◌++◌, Option, Some, None, nat_lt, if◌then◌else◌, slice_index_or, ◌||◌, ◌⊎◌}
+use Rattle.std.specs.Prelude.{◌≡◌, ℕ, ◌+◌, ◌-◌, ◌*◌, ◌^◌, ◌<◌, ◌≤◌, ◌==◌, min, true, false, List, [], ◌∷◌, ◌++◌, Option}
+use Rattle.std.specs.Prelude.{Some, None, nat_lt, if◌then◌else◌, slice_index_or, ◌||◌, ◌⊎◌}
 use Rattle.completion_core.specs.Graph.{copies}
 use Rattle.completion_core.specs.Legal.{count}
 use Rattle.pending_count.specs.declared.view.View.{View}
@@ -73,11 +74,43 @@ least (Some m) (Some n) = Some (min m n)
 module _ {T : Type 0} where
   -- who has no seat, or a seat that was joined into another, holds nothing
   abbrev pub blank : View T
-  blank = record { credit = 0; added = 0; held = []; sides = []; taken = []; claims = []; armed = []; armed_sides = []; noted = []; noted_sides = []; tags = []; places = []; seen = None; none_left = false; of = record {} }
+  blank = record {
+    credit = 0;
+    added = 0;
+    held = [];
+    sides = [];
+    taken = [];
+    claims = [];
+    armed = [];
+    armed_sides = [];
+    noted = [];
+    noted_sides = [];
+    tags = [];
+    places = [];
+    seen = None;
+    none_left = false;
+    of = record {};
+  }
 
   -- the first seat
   abbrev pub first_view : ℕ → View T
-  first_view ends = record { credit = whole_credit; added = 0; held = copies ends 0; sides = []; taken = []; claims = []; armed = []; armed_sides = []; noted = []; noted_sides = []; tags = []; places = []; seen = Some ends; none_left = false; of = record {} }
+  first_view ends = record {
+    credit = whole_credit;
+    added = 0;
+    held = copies ends 0;
+    sides = [];
+    taken = [];
+    claims = [];
+    armed = [];
+    armed_sides = [];
+    noted = [];
+    noted_sides = [];
+    tags = [];
+    places = [];
+    seen = Some ends;
+    none_left = false;
+    of = record {};
+  }
 
   -- the view of the actor a, among the views of all seats
   abbrev pub view_at : List (View T) → ℕ → View T
@@ -99,7 +132,8 @@ module _ {T : Type 0} where
 
   -- what is split off: arrivals at END or at a plain node, or one side of a pair
   abbrev pub SplitOff : ℕ → ℕ → List ℕ → View T → Type 0
-  SplitOff node k sides v = ((sides ≡ []) × (0 < node → IsPlainAt node v)) ⊎ ((k ≡ 1) × (0 < node) × ((sides ≡ left_slot node ∷ []) ⊎ (sides ≡ right_slot node ∷ [])))
+  SplitOff node k sides v = ((sides ≡ []) × (0 < node → IsPlainAt node v))
+      ⊎ ((k ≡ 1) × (0 < node) × ((sides ≡ left_slot node ∷ []) ⊎ (sides ≡ right_slot node ∷ [])))
 
   -- each node that stands in the view, held or claimed, is one of these
   abbrev pub InRange : ℕ → View T → Type 0
@@ -153,7 +187,8 @@ module _ {T : Type 0} where
 
   -- after the last arrival at a pair, on the side of this slot: the node kept these, and these tags are known
   abbrev pub closed_view : ℕ → ℕ → List ℕ → List ℕ → List (ℕ × T) → View T → View T
-  closed_view node slot kept kept_sides tags v = record (finished_view node kept kept_sides v) { sides = kept_sides ++ less slot v.sides; taken = []; tags = tags }
+  closed_view node slot kept kept_sides tags v =
+      record (finished_view node kept kept_sides v) { sides = kept_sides ++ less slot v.sides; taken = []; tags = tags }
 
   -- after d arrivals were added at the node
   abbrev pub added_view : ℕ → ℕ → View T → View T
@@ -165,11 +200,22 @@ module _ {T : Type 0} where
 
   -- what is left of a seat from which k arrivals at the node (these of them as sides) and some credit were split off
   abbrev pub rest_view : ℕ → ℕ → ℕ → List ℕ → View T → View T
-  rest_view node k credit sides v = record v { credit = v.credit - credit; held = minus (copies k node) v.held; sides = minus sides v.sides }
+  rest_view node k credit sides v = record v
+      { credit = v.credit - credit; held = minus (copies k node) v.held; sides = minus sides v.sides }
 
   -- the seat that was split off: it knows what the first one knew
   abbrev pub part_view : ℕ → ℕ → ℕ → List ℕ → View T → View T
-  part_view node k credit sides v = record blank { credit = credit; held = copies k node; sides = sides; noted = v.noted; noted_sides = v.noted_sides; tags = v.tags; places = v.places; seen = v.seen; none_left = v.none_left }
+  part_view node k credit sides v = record blank {
+    credit = credit;
+    held = copies k node;
+    sides = sides;
+    noted = v.noted;
+    noted_sides = v.noted_sides;
+    tags = v.tags;
+    places = v.places;
+    seen = v.seen;
+    none_left = v.none_left;
+  }
 
   -- after the second seat was joined into the first one: credits of one table are never more than the whole of it
   abbrev pub joined_view : View T → View T → View T

@@ -10,6 +10,8 @@
 //! the tokens and a worked trace. Tests and proved callers are in the crate `test_completers`.
 //! Not promised: that a last arrival ever comes, since a seat may be dropped, nor which of two threads comes first.
 //! Java SE 17: the pending count of `CountedCompleter`, which is here the number of arrivals owed, less one.
+//!
+//! Tested: `counting.rt`, `random_tree.rt`, `walks.rt` of `test_completers`; runs of the programs in `tests`.
 #![tactic(auto)]
 
 mod counts;

@@ -186,7 +186,7 @@ impl<V, K: Fits<V>> Counts<V, K> {
         ArrivedPair::Last(Seat { token, credit }, finish)
     }
 
-    // Empties the slots that came to the token with the last arrival: the kept value's, the other side's, and its own.
+    /// Empties the slots that came to the token with the last arrival: the kept value's, the other side's, and its own.
     fn collect(
         &self,
         mut token: SeatToken<V, K, K::Tag>,
@@ -228,7 +228,7 @@ fn in_order<V, K>(is_left: bool, ours: V, theirs: V, kept: K) -> FinishPair<V, K
     }
 }
 
-// The slot of a side's value.
+/// The slot of a side's value.
 fn slot_number(node: Node, is_left: bool) -> usize
     ensures { result ≡ side_slot node is_left }
 {

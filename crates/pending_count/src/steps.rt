@@ -237,7 +237,7 @@ impl<V, K: Fits<V>> Counts<V, K> {
     }
 }
 
-// The words at the start.
+/// The words at the start.
 fn opening(alloc: Global, nodes: u32, ends: u64) -> Result<Vec<u64>, AllocError>
     ensures { IfOk result (λ v. v.items ≡ ends ∷ replicate (nodes + 1) 0) }
 {

@@ -42,11 +42,13 @@ ups f range q (pair l r) = merged_value f (ups f range q l) (ups_end l) (ups f r
 -- the down pass: each piece begins with the fold of what lies left of it
 abbrev pub downs : (ℤ → ℤ → ℤ) → Range → ℕ → Option ℤ → Pieces → List Item
 downs f range q start (piece t) = scan_at f (cut_to range q (length t.items)) 0 start t.items
-downs f range q start (pair l r) = downs f range q start l ++ downs f range (q + size l) (joined_value f start (ups f range q l)) r
+downs f range q start (pair l r) = downs f range q start l
+    ++ downs f range (q + size l) (joined_value f start (ups f range q l)) r
 
 -- after the up pass: a fault, or positions that end after the last item, or the down pass
 abbrev pub then_down : (ℤ → ℤ → ℤ) → Range → ℕ → Pieces → End → Trace
-then_down f range stage ps end.Done = if ends_after range (size ps) then out_of_array stage else trace (downs f range 0 None ps) end.Done
+then_down f range stage ps end.Done = if ends_after range (size ps) then out_of_array stage
+    else trace (downs f range 0 None ps) end.Done
 then_down f range stage ps (end.Fault g) = trace [] (end.Fault g)
 
 abbrev pub two_passes : (ℤ → ℤ → ℤ) → Range → ℕ → Pieces → Trace

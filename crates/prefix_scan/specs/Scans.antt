@@ -1,5 +1,6 @@
 -- Condition: folds and scans of a piece whose first item has some position.
-use Rattle.std.specs.Prelude.{◌≡◌, ℕ, suc, ℤ, ◌-◌, ◌<◌, ◌≤◌, min, Bool, true, false, if◌then◌else◌, List, [], ◌∷◌, Option, Some, None}
+use Rattle.std.specs.Prelude.{◌≡◌, ℕ, suc, ℤ, ◌-◌, ◌<◌, ◌≤◌, min, Bool, true, false, if◌then◌else◌, List, [], ◌∷◌}
+use Rattle.std.specs.Prelude.{Option, Some, None}
 use Rattle.lambda_values.specs.declared.item.Item.{Item}
 use Rattle.trace.specs.Trace.{Trace, trace}
 use Rattle.reduce_ops.specs.declared.partial.Partial.{Partial}
@@ -25,7 +26,8 @@ fold_at f r q start (x ∷ xs) = fold_at f r (suc q) (fold_on f (is_within r q) 
 -- with it
 abbrev pub scan_at : (ℤ → ℤ → ℤ) → Range → ℕ → Option ℤ → List Item → List Item
 scan_at f r q start [] = []
-scan_at f r q start (x ∷ xs) = item_on f (is_within r q) start x ∷ scan_at f r (suc q) (fold_on f (is_within r q) start x) xs
+scan_at f r q start (x ∷ xs) = item_on f (is_within r q) start x
+    ∷ scan_at f r (suc q) (fold_on f (is_within r q) start x) xs
 
 -- the fold of `start` and a value, if the flag says that its position is in the range
 abbrev pub fold_value_on : (ℤ → ℤ → ℤ) → Bool → Option ℤ → ℤ → Option ℤ
@@ -42,7 +44,8 @@ fold_values_at f r q start (v ∷ vs) = fold_values_at f r (suc q) (fold_value_o
 
 abbrev pub scan_values_at : (ℤ → ℤ → ℤ) → Range → ℕ → Option ℤ → List ℤ → List ℤ
 scan_values_at f r q start [] = []
-scan_values_at f r q start (v ∷ vs) = value_on f (is_within r q) start v ∷ scan_values_at f r (suc q) (fold_value_on f (is_within r q) start v) vs
+scan_values_at f r q start (v ∷ vs) = value_on f (is_within r q) start v
+    ∷ scan_values_at f r (suc q) (fold_value_on f (is_within r q) start v) vs
 
 -- among the positions before `count`, the range has the ones from `from` up to, not with, `to`
 pub record AreWithin (r : Range) (count from to : ℕ) : Type 0 where

@@ -7,6 +7,8 @@
 //! Begin with `specs/Prefixes.antt` and `laws.rt`, then `scan.rt`. No call takes memory.
 //! Not promised: how the pieces are cut, or on which threads they are scanned.
 //! Java: `Arrays.parallelPrefix` (Java SE 17, `java.util`).
+//!
+//! Tested: `calls.rt` of `test_low`; runs of the programs in `tests`.
 #![tactic(auto)]
 
 mod block;

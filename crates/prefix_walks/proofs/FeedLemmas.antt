@@ -16,22 +16,31 @@ use Rattle.batch_eval.specs.Pipelines.{piped}
 
 module _ {S : Type 0} (h : S → List Item → Type 0) (line : Pipeline) where
   -- some items, and then others
-  pub fed_both : (xs ys zs all : List Item) (r : Result Fed AllocError) (s s' : S) → all ≡ ys ++ zs → IsFed h xs (piped line (trace ys end.Done)) (Ok fed.More) s
-      → ((vs : List Item) → h s vs → IsFed h vs (piped line (trace zs end.Done)) r s') → IsFed h xs (piped line (trace all end.Done)) r s'
+  pub fed_both : (xs ys zs all : List Item) (r : Result Fed AllocError) (s s' : S) → all ≡ ys ++ zs
+      → IsFed h xs (piped line (trace ys end.Done)) (Ok fed.More) s
+      → ((vs : List Item) → h s vs → IsFed h vs (piped line (trace zs end.Done)) r s')
+      → IsFed h xs (piped line (trace all end.Done)) r s'
   fed_both xs ys zs all r s s' e p later =
       let a : Trace = piped line (trace ys end.Done) in
       let b : Trace = piped line (trace zs end.Done) in
-      subst (λ (t : Trace). IsFed h xs t r s') (sym (ap (λ (us : List Item). piped line (trace us end.Done)) e ∙ pipe_more line.first (stages_of line.stages.now) line.env.now ys zs end.Done))
+      subst (λ (t : Trace). IsFed h xs t r s')
+      (sym (ap (λ (us : List Item). piped line (trace us end.Done)) e
+      ∙ pipe_more line.first (stages_of line.stages.now) line.env.now ys zs end.Done))
       (IsFed_on h xs a b r s' p.1 (later (xs ++ a.items) p.0))
 
   -- some items, at which the walk was stopped
-  pub fed_stopped : (xs ys zs all : List Item) (r : Result Fed AllocError) (s : S) → all ≡ ys ++ zs → (r ≡ Ok fed.More → ⊥) → IsFed h xs (piped line (trace ys end.Done)) r s
+  pub fed_stopped : (xs ys zs all : List Item) (r : Result Fed AllocError) (s : S) → all ≡ ys ++ zs
+      → (r ≡ Ok fed.More → ⊥) → IsFed h xs (piped line (trace ys end.Done)) r s
       → IsFed h xs (piped line (trace all end.Done)) r s
   fed_stopped xs ys zs all r s e stopped p =
-      subst (λ (us : List Item). IsFed h xs (piped line (trace us end.Done)) r s) (sym e) (IsFed_ended h line.first (stages_of line.stages.now) line.env.now xs ys zs end.Done r s stopped p)
+      subst (λ (us : List Item). IsFed h xs (piped line (trace us end.Done)) r s) (sym e)
+      (IsFed_ended h line.first (stages_of line.stages.now) line.env.now xs ys zs end.Done r s stopped p)
 
   -- no items
-  pub fed_none : (xs all : List Item) (s : S) → all ≡ [] → h s xs → IsFed h xs (piped line (trace all end.Done)) (Ok fed.More) s
+  pub fed_none : (xs all : List Item) (s : S) → all ≡ [] → h s xs
+      → IsFed h xs (piped line (trace all end.Done)) (Ok fed.More) s
   fed_none xs all s e took =
-      subst (λ (t : Trace). IsFed h xs t (Ok fed.More) s) (sym (ap (λ (us : List Item). piped line (trace us end.Done)) e ∙ pipe_ended line.first (stages_of line.stages.now) line.env.now end.Done))
+      subst (λ (t : Trace). IsFed h xs t (Ok fed.More) s)
+      (sym (ap (λ (us : List Item). piped line (trace us end.Done)) e
+      ∙ pipe_ended line.first (stages_of line.stages.now) line.env.now end.Done))
       (subst (h s) (sym (append-nil xs)) took, refl)

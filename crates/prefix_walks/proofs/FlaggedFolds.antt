@@ -1,5 +1,6 @@
 -- Folds of the values whose flag is set, lane by lane.
-use Rattle.std.proofs.Common.{◌≡◌, ℕ, ◌+◌, ◌<◌, ℤ, FitsSigned, w64, Bool, true, false, List, [], ◌∷◌, ◌++◌, length, Some, None, fold, refl, sym, ap, subst, ◌∙◌, arith, rules, add-one, length-append}
+use Rattle.std.proofs.Common.{◌≡◌, ℕ, ◌+◌, ◌<◌, ℤ, FitsSigned, w64, Bool, true, false, List, [], ◌∷◌, ◌++◌, length}
+use Rattle.std.proofs.Common.{Some, None, fold, refl, sym, ap, subst, ◌∙◌, arith, rules, add-one, length-append}
 use Rattle.std.proofs.lemmas.List.{append-nil}
 use Rattle.std.proofs.lemmas.List.Sums.{fold-append}
 use Rattle.reduce_ops.specs.declared.op.Op.{Op}
@@ -20,31 +21,41 @@ fit_joined (v ∷ vs) ws a b = (a.0, fit_joined vs ws a.1 b)
 
 module _ (p : ℤ → Bool) (values flags : List ℤ) where
   -- one value more, or none
-  pub values_set : (n : ℕ) → p (at flags n) ≡ true → flagged_values p values flags (n + 1) ≡ flagged_values p values flags n ++ at values n ∷ []
+  pub values_set : (n : ℕ) → p (at flags n) ≡ true
+      → flagged_values p values flags (n + 1) ≡ flagged_values p values flags n ++ at values n ∷ []
   values_set n set = rw (add-one, set) refl
 
-  pub values_unset : (n : ℕ) → p (at flags n) ≡ false → flagged_values p values flags (n + 1) ≡ flagged_values p values flags n
+  pub values_unset : (n : ℕ) → p (at flags n) ≡ false
+      → flagged_values p values flags (n + 1) ≡ flagged_values p values flags n
   values_unset n unset = rw (add-one, unset) (append-nil (flagged_values p values flags n))
 
-  pub passed_set : (n : ℕ) → p (at flags n) ≡ true → length (flagged_values p values flags (n + 1)) ≡ length (flagged_values p values flags n) + 1
-  passed_set n set = ap (λ (vs : List ℤ). length vs) (values_set n set) ∙ length-append (flagged_values p values flags n) (at values n ∷ [])
+  pub passed_set : (n : ℕ) → p (at flags n) ≡ true
+      → length (flagged_values p values flags (n + 1)) ≡ length (flagged_values p values flags n) + 1
+  passed_set n set = ap (λ (vs : List ℤ). length vs) (values_set n set)
+      ∙ length-append (flagged_values p values flags n) (at values n ∷ [])
 
-  pub fit_set : (n : ℕ) → p (at flags n) ≡ true → FitsSigned w64 (at values n) → AllFit (flagged_values p values flags n) → AllFit (flagged_values p values flags (n + 1))
-  fit_set n set here before = subst AllFit (sym (values_set n set)) (fit_joined (flagged_values p values flags n) (at values n ∷ []) before (here, tt))
+  pub fit_set : (n : ℕ) → p (at flags n) ≡ true → FitsSigned w64 (at values n)
+      → AllFit (flagged_values p values flags n) → AllFit (flagged_values p values flags (n + 1))
+  fit_set n set here before = subst AllFit (sym (values_set n set))
+      (fit_joined (flagged_values p values flags n) (at values n ∷ []) before (here, tt))
 
   module _ (op : Op) (counts : Bool) (identity : ℤ) where
     -- the fold of the values of the first n lanes
     abbrev pub folded_from : ℕ → ℤ
     folded_from n = fold (λ a v. value_of op a (each_one counts v)) identity (flagged_values p values flags n)
 
-    pub folded_set : (n : ℕ) → p (at flags n) ≡ true → folded_from (n + 1) ≡ value_of op (folded_from n) (each_one counts (at values n))
+    pub folded_set : (n : ℕ) → p (at flags n) ≡ true
+        → folded_from (n + 1) ≡ value_of op (folded_from n) (each_one counts (at values n))
     folded_set n set =
         let f : ℤ → ℤ → ℤ = λ a v. value_of op a (each_one counts v) in
-        ap (fold f identity) (values_set n set) ∙ fold-append f identity (flagged_values p values flags n) (at values n ∷ [])
+        ap (fold f identity) (values_set n set)
+        ∙ fold-append f identity (flagged_values p values flags n) (at values n ∷ [])
 
-    pub folded_unset : (n : ℕ) (a : ℤ) → identity_of op ≡ Some identity → FitsSigned w64 a → a ≡ folded_from n → p (at flags n) ≡ false → folded_from (n + 1) ≡ value_of op a identity
+    pub folded_unset : (n : ℕ) (a : ℤ) → identity_of op ≡ Some identity → FitsSigned w64 a → a ≡ folded_from n
+        → p (at flags n) ≡ false → folded_from (n + 1) ≡ value_of op a identity
     folded_unset n a is fits so_far unset =
-        ap (fold (λ b v. value_of op b (each_one counts v)) identity) (values_unset n unset) ∙ sym so_far ∙ sym (all_identities op identity is a fits).1
+        ap (fold (λ b v. value_of op b (each_one counts v)) identity) (values_unset n unset) ∙ sym so_far
+        ∙ sym (all_identities op identity is a fits).1
 
     one_fits : (v : ℤ) → FitsSigned w64 v → FitsSigned w64 (each_one counts v)
     one_fits v fits = by_kind counts where
@@ -52,13 +63,17 @@ module _ (p : ℤ → Bool) (values flags : List ℤ) where
       by_kind true = search rules
       by_kind false = fits
 
-    some_folded : identity_of op ≡ Some identity → (vs : List ℤ) → AllFit vs → 0 < length vs → Some (fold (λ a v. value_of op a (each_one counts v)) identity vs) ≡ folded_values (value_of op) counts vs
+    some_folded : identity_of op ≡ Some identity → (vs : List ℤ) → AllFit vs → 0 < length vs
+        → Some (fold (λ a v. value_of op a (each_one counts v)) identity vs) ≡ folded_values (value_of op) counts vs
     some_folded is [] fits some = absurd (omega (arith, some))
     some_folded is (v ∷ vs) fits some =
-        ap (λ (a : ℤ). Some (fold (λ b w. value_of op b (each_one counts w)) a vs)) (all_identities op identity is (each_one counts v) (one_fits v fits.0)).0
+        ap (λ (a : ℤ). Some (fold (λ b w. value_of op b (each_one counts w)) a vs))
+        (all_identities op identity is (each_one counts v) (one_fits v fits.0)).0
 
     -- a fold onto an identity is the fold, if there are values
-    pub flagged_folded : identity_of op ≡ Some identity → (n : ℕ) → AllFit (flagged_values p values flags n) → 0 < length (flagged_values p values flags n) → Some (folded_from n) ≡ folded_values (value_of op) counts (flagged_values p values flags n)
+    pub flagged_folded : identity_of op ≡ Some identity → (n : ℕ) → AllFit (flagged_values p values flags n)
+        → 0 < length (flagged_values p values flags n)
+        → Some (folded_from n) ≡ folded_values (value_of op) counts (flagged_values p values flags n)
     flagged_folded is n fits some = some_folded is (flagged_values p values flags n) fits some
 
     pub none_folded : (vs : List ℤ) → 0 ≡ length vs → None ≡ folded_values (value_of op) counts vs

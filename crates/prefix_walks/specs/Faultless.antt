@@ -19,10 +19,12 @@ Agree false env other = ⊤
 
 -- at each item an expression, or a test, has a value and no fault: one value for all numbers of earlier jobs that agree
 abbrev pub HasValues : Bool → Long → Type 0
-HasValues names e = (env : Numbers) (x : Item) → (v : ℤ) × ((other : Numbers) → Agree names env other → long_value e x other ≡ Ok v)
+HasValues names e = (env : Numbers) (x : Item)
+    → (v : ℤ) × ((other : Numbers) → Agree names env other → long_value e x other ≡ Ok v)
 
 abbrev pub HasTruths : Bool → Truth → Type 0
-HasTruths names p = (env : Numbers) (x : Item) → (b : Bool) × ((other : Numbers) → Agree names env other → truth_value p x other ≡ Ok b)
+HasTruths names p = (env : Numbers) (x : Item)
+    → (b : Bool) × ((other : Numbers) → Agree names env other → truth_value p x other ≡ Ok b)
 
 -- what stages leave of items, with these numbers of earlier jobs, and without any
 abbrev pub left_with : Numbers → List AbstractStage → List Item → List Item
@@ -35,11 +37,13 @@ left_by gs xs = left_with nothing_named gs xs
 -- numbers of earlier jobs that agree, and no more items than it has
 abbrev pub AreFaultless : Bool → List AbstractStage → Type 0
 AreFaultless names gs = (env : Numbers)
-    → ((n : ℕ) (other : Numbers) → Agree names env other → (xs : List Item) (ending : End) → pipe n gs other (trace xs ending) ≡ trace (left_with env gs xs) ending)
+    → ((n : ℕ) (other : Numbers) → Agree names env other → (xs : List Item) (ending : End)
+    → pipe n gs other (trace xs ending) ≡ trace (left_with env gs xs) ending)
     × ((xs : List Item) → length (left_with env gs xs) ≤ length xs)
 
 -- no two proofs of that differ
 pub AreFaultless-prop : (names : Bool) (gs : List AbstractStage) → IsProp (AreFaultless names gs)
 AreFaultless-prop names gs = Π_prop λ env. ×_prop
-    (Π_prop λ n. Π_prop λ other. Π_prop λ same. Π_prop λ xs. Π_prop λ ending. Coded-set (chunks.the_row).coded (pipe n gs other (trace xs ending)) (trace (left_with env gs xs) ending))
+    (Π_prop λ n. Π_prop λ other. Π_prop λ same. Π_prop λ xs. Π_prop λ ending. Coded-set (chunks.the_row).coded
+    (pipe n gs other (trace xs ending)) (trace (left_with env gs xs) ending))
     (Π_prop λ xs. hlevel props)

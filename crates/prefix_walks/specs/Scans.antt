@@ -53,7 +53,8 @@ mark q start = record { before = q; start = start }
 
 abbrev pub marks_of : (ℤ → ℤ → ℤ) → Range → ℕ → Option ℤ → List FoldedPiece → List PieceStart
 marks_of f r q start [] = []
-marks_of f r q start (p ∷ ps) = mark q start ∷ marks_of f r (q + length (items_of p)) (fold_at f r q start (items_of p)) ps
+marks_of f r q start (p ∷ ps) = mark q start
+    ∷ marks_of f r (q + length (items_of p)) (fold_at f r q start (items_of p)) ps
 
 -- pieces that are scanned as they are walked
 pub record IsMarked (f : Op) (r : Range) (ps : List FoldedPiece) (ms : List PieceStart) (size : ℕ) : Type 0 where

@@ -10,6 +10,8 @@
 //! `folded_flagged`) and the question whether stages can't have a fault (`are_faultless`) are of use without a prefix.
 //! Not promised: that a value is read once. What cheap stages leave of a borrowed value is worked out for its fold and
 //! again where it is read.
+//!
+//! Tested: runs of the programs in `tests`.
 #![tactic(auto)]
 
 mod cheap_stages;

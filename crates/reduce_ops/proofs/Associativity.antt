@@ -17,8 +17,10 @@ greater_grouped : (a b c : ℤ) → value_of Max (value_of Max a b) c ≡ value_
 greater_grouped a b c = grind (arith, ints)
 
 pub all_associative : (op : Op) → IsAssociative (value_of op)
-all_associative Sum a b c = int_wrap-add_left w64 (a +ℤ b) c ∙ ap (int_wrap w64) (+ℤ_assoc a b c) ∙ sym (int_wrap-add_right w64 a (b +ℤ c))
-all_associative Product a b c = int_wrap-mul_left w64 (a *ℤ b) c ∙ ap (int_wrap w64) (product_assoc a b c) ∙ sym (int_wrap-mul_right w64 a (b *ℤ c))
+all_associative Sum a b c = int_wrap-add_left w64 (a +ℤ b) c ∙ ap (int_wrap w64) (+ℤ_assoc a b c)
+    ∙ sym (int_wrap-add_right w64 a (b +ℤ c))
+all_associative Product a b c = int_wrap-mul_left w64 (a *ℤ b) c ∙ ap (int_wrap w64) (product_assoc a b c)
+    ∙ sym (int_wrap-mul_right w64 a (b *ℤ c))
 all_associative Min a b c = lesser_grouped a b c
 all_associative Max a b c = greater_grouped a b c
 all_associative And a b c = and_grouped a b c

@@ -1,5 +1,6 @@
 -- Each identity works on both sides.
-use Rattle.std.proofs.Common.{◌≡◌, ℕ, ◌+◌, ◌*◌, ◌/◌, ◌%◌, ◌^◌, ℤ, pos, negsuc, ◌+ℤ◌, Some, refl, ap, ◌∙◌, arith, subst, FitsSigned}
+use Rattle.std.proofs.Common.{◌≡◌, ℕ, ◌+◌, ◌*◌, ◌/◌, ◌%◌, ◌^◌, ℤ, pos, negsuc, ◌+ℤ◌, Some, refl, ap, ◌∙◌, arith, subst}
+use Rattle.std.proofs.Common.{FitsSigned}
 use Rattle.std.proofs.Math.IntN.{*ℤ-one, *ℤ_comm}
 use Rattle.std.specs.Int.{w64, int_wrap}
 use Rattle.std.specs.Int.Bits.{and_mask, and_comm, or_zero_l, or_zero_r, xor_zero_l, xor_zero_r}
@@ -61,19 +62,30 @@ module _ (a : ℤ) (fits : FitsSigned w64 a) where
   halves n e u l p q = let k : u * 2 ^ 32 + l ≡ n = omega arith in ap signed (k ∙ e) ∙ signed_bits a fits
 
   affine_left : value_of Affine (pos 4294967296) a ≡ a
-  affine_left = let h = bits_below a in halves (bits_of a) refl ((1 * upper a) % 2 ^ 32) ((0 * upper a + lower a) % 2 ^ 32) (omega arith) (omega arith)
+  affine_left = let h = bits_below a in halves (bits_of a) refl ((1 * upper a) % 2 ^ 32)
+      ((0 * upper a + lower a) % 2 ^ 32) (omega arith) (omega arith)
 
   affine_right : value_of Affine a (pos 4294967296) ≡ a
-  affine_right = let h = bits_below a in halves (bits_of a) refl ((upper a * 1) % 2 ^ 32) ((lower a * 1 + 0) % 2 ^ 32) (omega arith) (omega arith)
+  affine_right = let h = bits_below a in
+      halves (bits_of a) refl ((upper a * 1) % 2 ^ 32) ((lower a * 1 + 0) % 2 ^ 32) (omega arith) (omega arith)
 
 pub all_identities : (op : Op) (i : ℤ) → identity_of op ≡ Some i → IsIdentity (value_of op) i
-all_identities Sum i e a fits = let k : pos 0 ≡ i = cc in subst (λ (i : ℤ). (value_of Sum i a ≡ a) × (value_of Sum a i ≡ a)) k (sum_left a fits, sum_right a fits)
-all_identities Product i e a fits = let k : pos 1 ≡ i = cc in subst (λ (i : ℤ). (value_of Product i a ≡ a) × (value_of Product a i ≡ a)) k (product_left a fits, product_right a fits)
-all_identities Min i e a fits = let k : pos 9223372036854775807 ≡ i = cc in subst (λ (i : ℤ). (value_of Min i a ≡ a) × (value_of Min a i ≡ a)) k (min_left a fits, min_right a fits)
-all_identities Max i e a fits = let k : negsuc 9223372036854775807 ≡ i = cc in subst (λ (i : ℤ). (value_of Max i a ≡ a) × (value_of Max a i ≡ a)) k (max_left a fits, max_right a fits)
-all_identities And i e a fits = let k : negsuc 0 ≡ i = cc in subst (λ (i : ℤ). (value_of And i a ≡ a) × (value_of And a i ≡ a)) k (and_left a fits, and_right a fits)
-all_identities Or i e a fits = let k : pos 0 ≡ i = cc in subst (λ (i : ℤ). (value_of Or i a ≡ a) × (value_of Or a i ≡ a)) k (or_left a fits, or_right a fits)
-all_identities Xor i e a fits = let k : pos 0 ≡ i = cc in subst (λ (i : ℤ). (value_of Xor i a ≡ a) × (value_of Xor a i ≡ a)) k (xor_left a fits, xor_right a fits)
-all_identities Affine i e a fits = let k : pos 4294967296 ≡ i = cc in subst (λ (i : ℤ). (value_of Affine i a ≡ a) × (value_of Affine a i ≡ a)) k (affine_left a fits, affine_right a fits)
+all_identities Sum i e a fits = let k : pos 0 ≡ i = cc in
+    subst (λ (i : ℤ). (value_of Sum i a ≡ a) × (value_of Sum a i ≡ a)) k (sum_left a fits, sum_right a fits)
+all_identities Product i e a fits = let k : pos 1 ≡ i = cc in
+    subst (λ (i : ℤ). (value_of Product i a ≡ a) × (value_of Product a i ≡ a)) k
+    (product_left a fits, product_right a fits)
+all_identities Min i e a fits = let k : pos 9223372036854775807 ≡ i = cc in
+    subst (λ (i : ℤ). (value_of Min i a ≡ a) × (value_of Min a i ≡ a)) k (min_left a fits, min_right a fits)
+all_identities Max i e a fits = let k : negsuc 9223372036854775807 ≡ i = cc in
+    subst (λ (i : ℤ). (value_of Max i a ≡ a) × (value_of Max a i ≡ a)) k (max_left a fits, max_right a fits)
+all_identities And i e a fits = let k : negsuc 0 ≡ i = cc in
+    subst (λ (i : ℤ). (value_of And i a ≡ a) × (value_of And a i ≡ a)) k (and_left a fits, and_right a fits)
+all_identities Or i e a fits = let k : pos 0 ≡ i = cc in
+    subst (λ (i : ℤ). (value_of Or i a ≡ a) × (value_of Or a i ≡ a)) k (or_left a fits, or_right a fits)
+all_identities Xor i e a fits = let k : pos 0 ≡ i = cc in
+    subst (λ (i : ℤ). (value_of Xor i a ≡ a) × (value_of Xor a i ≡ a)) k (xor_left a fits, xor_right a fits)
+all_identities Affine i e a fits = let k : pos 4294967296 ≡ i = cc in
+    subst (λ (i : ℤ). (value_of Affine i a ≡ a) × (value_of Affine a i ≡ a)) k (affine_left a fits, affine_right a fits)
 all_identities First i e a fits = cc
 all_identities Last i e a fits = cc

@@ -14,14 +14,16 @@ use Rattle.reduce_ops.specs.declared.sum_part.SumPart.{SumPart}
 use Rattle.reduce_ops.specs.declared.sum_part.SumPart.TheVariants as part
 use Rattle.reduce_ops.specs.ExactSums.{exact_from, exact_end, exact_sum, sum_on}
 use Rattle.reduce_ops.specs.Reaches.{IsExact, IsOver, IsPiece, StandsFor, is_ended, is_fault, is_running, is_settled}
-use Rattle.reduce_ops.proofs.ExactLemmas.{ended_stays, err_stays, joined_sum, on_fault, over_stays, sum_joined, the_long}
+use Rattle.reduce_ops.proofs.ExactLemmas.{ended_stays, err_stays, joined_sum, on_fault, over_stays, sum_joined}
+use Rattle.reduce_ops.proofs.ExactLemmas.{the_long}
 
 the_fault : (e : End) → is_fault e ≡ true → (f : Fault) × (e ≡ end.Fault f)
 the_fault end.Done h = absurd (let z : false ≡ true = h in cc)
 the_fault (end.Fault f) h = (f, refl)
 
 -- after what settles a piece, nothing matters
-pub sum_settled : (n : ℕ) (p : SumPart) (a b : Trace) → is_settled p ≡ true → StandsFor n p a → StandsFor n p (append a b)
+pub sum_settled : (n : ℕ) (p : SumPart) (a b : Trace) → is_settled p ≡ true → StandsFor n p a
+    → StandsFor n p (append a b)
 sum_settled n (part.Piece (piece.Within r e)) a b h s =
     let f = the_fault e h in
     subst (λ (t : Trace). IsPiece (piece.Within r e) t) (sym (on_fault a b f.0 (sym s.1 ∙ f.1))) s
@@ -62,7 +64,8 @@ module _ (n : ℕ) where
       by (Err g) h = (g, sum_joined n a t ∙ ap (λ q. sum_on n q t) h)
 
   -- and so have all that go on with it
-  settles : (t : Trace) → Faults t → (a b c : Trace) → exact_sum n (append (append a t) b) ≡ exact_sum n (append (append a t) c)
+  settles : (t : Trace) → Faults t → (a b c : Trace)
+      → exact_sum n (append (append a t) b) ≡ exact_sum n (append (append a t) c)
   settles t faults a b c =
       let g = after_any a t faults in
       joined_sum n (append a t) b (Err g.0) (sym g.1) ∙ sym (joined_sum n (append a t) c (Err g.0) (sym g.1))
@@ -76,12 +79,17 @@ sum_settles n (part.Running r) t h k s = absurd (let z : true ≡ false = k in c
 sum_settles n part.Unknown t h k s = absurd (let z : false ≡ true = h in cc)
 
 -- a part of a walk from the first item on that is settled has a fault, whatever comes after the walk
-first_faults : (n : ℕ) (t : Trace) (r : Exact) → is_ended r ≡ true → IsExact n t r → (g : Fault) × ((b : Trace) → exact_sum n (append t b) ≡ Err g)
+first_faults : (n : ℕ) (t : Trace) (r : Exact) → is_ended r ≡ true → IsExact n t r
+    → (g : Fault) × ((b : Trace) → exact_sum n (append t b) ≡ Err g)
 first_faults n t (exact.Sum z) h s = absurd (let k : false ≡ true = h in cc)
 first_faults n t (exact.Fault f) h s = (f, λ b. joined_sum n t b (Err f) (sym s))
-first_faults n t exact.Search h s = (record { kind = kind.Overflow; stage = n; origin = Some s.0.origin }, λ b. ap (exact_end n (append t b).ending) (err_stays (pos 0) s.0 t b s.1))
+first_faults n t exact.Search h s = (
+  record { kind = kind.Overflow; stage = n; origin = Some s.0.origin },
+  λ b. ap (exact_end n (append t b).ending) (err_stays (pos 0) s.0 t b s.1),
+)
 
-pub first_settles : (n : ℕ) (p : SumPart) (t : Trace) → is_settled p ≡ true → is_running p ≡ true → StandsFor n p t → (b c : Trace) → exact_sum n (append t b) ≡ exact_sum n (append t c)
+pub first_settles : (n : ℕ) (p : SumPart) (t : Trace) → is_settled p ≡ true → is_running p ≡ true → StandsFor n p t
+    → (b c : Trace) → exact_sum n (append t b) ≡ exact_sum n (append t c)
 first_settles n (part.Piece p) t h k s b c = absurd (let z : false ≡ true = k in cc)
 first_settles n (part.Running r) t h k s b c = let g = first_faults n t r h s in g.1 b ∙ sym (g.1 c)
 first_settles n part.Unknown t h k s b c = absurd (let z : false ≡ true = k in cc)

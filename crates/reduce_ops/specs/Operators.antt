@@ -1,5 +1,6 @@
 -- Meaning: the operators of folds, over integers of any size.
-use Rattle.std.specs.Prelude.{◌≡◌, ℕ, ◌+◌, ◌*◌, ◌/◌, ◌%◌, ◌^◌, ℤ, pos, negsuc, ◌+ℤ◌, ◌*ℤ◌, int_lt, unsigned_abs, bit_and, bit_or, bit_xor, if◌then◌else◌, Option, Some, None, FitsSigned}
+use Rattle.std.specs.Prelude.{◌≡◌, ℕ, ◌+◌, ◌*◌, ◌/◌, ◌%◌, ◌^◌, ℤ, pos, negsuc, ◌+ℤ◌, ◌*ℤ◌, int_lt, unsigned_abs}
+use Rattle.std.specs.Prelude.{bit_and, bit_or, bit_xor, if◌then◌else◌, Option, Some, None, FitsSigned}
 use Rattle.std.specs.Int.{w64, int_rem_euclid}
 use Rattle.lambda_values.specs.Wrap.{wrap}
 use Rattle.reduce_ops.specs.declared.op.Op.{Op}

@@ -1,5 +1,6 @@
 -- Condition: the range of the sums of a piece, and which walks the parts of exact sums describe.
-use Rattle.std.specs.Prelude.{◌≡◌, ◌⊎◌, ℕ, ◌^◌, ℤ, pos, negsuc, ◌+ℤ◌, ◌-ℤ◌, ◌≤ℤ◌, neg_ℤ, Bool, true, false, List, map, Option, Some, None, Result, Ok, Err, ⊤}
+use Rattle.std.specs.Prelude.{◌≡◌, ◌⊎◌, ℕ, ◌^◌, ℤ, pos, negsuc, ◌+ℤ◌, ◌-ℤ◌, ◌≤ℤ◌, neg_ℤ, Bool, true, false, List, map}
+use Rattle.std.specs.Prelude.{Option, Some, None, Result, Ok, Err, ⊤}
 use Rattle.std.specs.Int.{int_max, int_min}
 use Rattle.std.specs.List.{fold}
 use Rattle.lambda_values.specs.Operators.{is_long}
@@ -29,7 +30,11 @@ no_reach = record { total = pos 0; least = pos 0; greatest = pos 0 }
 
 -- with one more value
 abbrev pub reach_on : AbstractReach → ℤ → AbstractReach
-reach_on r v = record { total = r.total +ℤ v; least = int_min (r.total +ℤ v) r.least; greatest = int_max (r.total +ℤ v) r.greatest }
+reach_on r v = record {
+  total = r.total +ℤ v;
+  least = int_min (r.total +ℤ v) r.least;
+  greatest = int_max (r.total +ℤ v) r.greatest;
+}
 
 -- of values, and of the items of a piece
 abbrev pub reach_of : List ℤ → AbstractReach
@@ -40,7 +45,11 @@ item_values xs = map (λ (x : Item). x.value) xs
 
 -- of the values of two pieces side by side
 abbrev pub reach_beside : AbstractReach → AbstractReach → AbstractReach
-reach_beside r s = record { total = r.total +ℤ s.total; least = int_min (r.total +ℤ s.least) r.least; greatest = int_max (r.total +ℤ s.total) (int_max (r.total +ℤ s.greatest) r.greatest) }
+reach_beside r s = record {
+  total = r.total +ℤ s.total;
+  least = int_min (r.total +ℤ s.least) r.least;
+  greatest = int_max (r.total +ℤ s.total) (int_max (r.total +ℤ s.greatest) r.greatest);
+}
 
 -- no sum is below 0, or none is above
 abbrev pub IsOneSided : AbstractReach → Type 0
@@ -52,7 +61,8 @@ Covers r s = (r.least ≤ℤ (r.total +ℤ s.least)) × ((r.total +ℤ s.greates
 
 -- the first has the total of the second and reaches at least as far; its least and its greatest sum add up to the total
 abbrev pub IsWidest : AbstractReach → AbstractReach → Type 0
-IsWidest w r = (w.total ≡ r.total) × (w.total ≡ (w.least +ℤ w.greatest)) × (w.least ≤ℤ r.least) × (r.greatest ≤ℤ w.greatest)
+IsWidest w r = (w.total ≡ r.total) × (w.total ≡ (w.least +ℤ w.greatest)) × (w.least ≤ℤ r.least)
+    × (r.greatest ≤ℤ w.greatest)
 
 -- some sums differ by 2^64 or more
 abbrev pub IsWide : AbstractReach → Type 0

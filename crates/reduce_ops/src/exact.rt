@@ -6,7 +6,7 @@ ghost use Rattle.trace.specs.Trace.{Trace, trace, append};
 ghost use Rattle.reduce_ops.specs.ExactSums.{exact_sum, sum_on};
 ghost use Rattle.reduce_ops.specs.Reaches.{IsExact, IsPiece, exact_of, is_ended, is_search, item_values};
 
-use super::exact_part::ExactPart;
+use crate::exact_part::ExactPart;
 use lambda_values::FaultKind;
 use trace::{End, Fault, Item, SourceItems};
 

@@ -6,8 +6,8 @@ ghost use Rattle.lambda_values.specs.declared.item.Item.{Item as item};
 ghost use Rattle.trace.specs.Trace.{Trace, trace, append};
 ghost use Rattle.reduce_ops.specs.Reaches.{IsPiece, IsReach, is_over, item_values, reach_of};
 
-use super::reach::Reach;
-use super::reaching::reach_with;
+use crate::reach::Reach;
+use crate::reaching::reach_with;
 use trace::{End, Item};
 
 /// The sums of a piece of a stream, wherever they start, and how the walk over the piece ended.

@@ -14,6 +14,8 @@
 //! Not promised: that an operator is commutative; `affine`, `first` and `last` are not.
 //! Java: `Long::sum`, `Long::min`, `Long::max`, `Math::addExact` and `reduce` of `LongStream` (Java SE 17,
 //! `java.util.stream`).
+//!
+//! Tested: `calls.rt` of `test_low`; runs of the programs in `tests`.
 #![tactic(auto)]
 
 mod exact;

@@ -8,7 +8,7 @@ ghost use Rattle.reduce_ops.specs.Folds.{reduced, reduced_from, onto};
 ghost use Rattle.reduce_ops.specs.Operators.{value_of, identity_of};
 ghost use Rattle.reduce_ops.specs.Parts.{StandsFor};
 
-use super::op::Op;
+use crate::op::Op;
 use trace::{End, Fault, Flow, Item, LongSink, NoMemory};
 
 /// The fold of a piece of a stream, if the piece has items, and how the walk over the piece ended.

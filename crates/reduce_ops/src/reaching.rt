@@ -4,7 +4,7 @@ ghost use Rattle.std.specs.Prelude.{◌≡◌, ◌≤◌, true, length};
 ghost use Rattle.std.specs.List.{All};
 ghost use Rattle.reduce_ops.specs.Reaches.{IsReach, IsSmall, IsWidest, reach_beside, reach_in, reach_of};
 
-use super::reach::Reach;
+use crate::reach::Reach;
 
 /// Values from -2^49 to 2^49 are small.
 const SMALL: i64 = 562_949_953_421_312;

@@ -6,8 +6,8 @@ ghost use Rattle.trace.specs.Trace.{Trace, trace, append, nothing};
 ghost use Rattle.reduce_ops.specs.ExactSums.{exact_sum};
 ghost use Rattle.reduce_ops.specs.Reaches.{StandsFor, item_values, is_piece, is_running, is_settled, may_search};
 
-use super::exact::Exact;
-use super::exact_part::ExactPart;
+use crate::exact::Exact;
+use crate::exact_part::ExactPart;
 use trace::{End, Fault, Item, SourceItems};
 
 /// What a piece of a stream gives to an exact sum.

@@ -13,7 +13,8 @@ start_small b is = grind (arith, is)
 byte_small : (b : ℕ) → is_name_byte b ≡ true → b < 128
 byte_small b is = grind (arith, is)
 
-first_of_all : (b : ℕ) (bs : List ℕ) → list_all is_name_byte (b ∷ bs) ≡ true → (is_name_byte b ≡ true) × (list_all is_name_byte bs ≡ true)
+first_of_all : (b : ℕ) (bs : List ℕ) → list_all is_name_byte (b ∷ bs) ≡ true
+    → (is_name_byte b ≡ true) × (list_all is_name_byte bs ≡ true)
 first_of_all b bs all = search rules
 
 bytes_small : (bs : List ℕ) → list_all is_name_byte bs ≡ true → (i : ℕ) → slice_index bs i < 128

@@ -1,5 +1,6 @@
 -- Meaning: what an answer looks like in a report: its text, and, as JSON (RFC 8259), the object of its job.
-use Rattle.std.specs.Prelude.{ℕ, ℤ, Bool, true, false, List, [], ◌∷◌, ◌++◌, Option, Some, None, map, codes, slice_index_or}
+use Rattle.std.specs.Prelude.{ℕ, ℤ, Bool, true, false, List, [], ◌∷◌, ◌++◌, Option, Some, None, map, codes}
+use Rattle.std.specs.Prelude.{slice_index_or}
 use Rattle.std.specs.Fmt.{decimal, signed_decimal}
 use Rattle.serde_json.specs.Data.{Data, null, boolean, number, string, array, object, unsigned, member, no_members}
 use Rattle.serde_json.specs.Find.{of_integer}
@@ -37,7 +38,8 @@ place_text None = codes "-"
 place_text (Some place) = decimal place
 
 abbrev pub fault_text : Fault → List ℕ
-fault_text f = codes "fault " ++ kind_text f.kind ++ codes " stage " ++ decimal f.stage ++ codes " item " ++ place_text f.origin
+fault_text f = codes "fault " ++ kind_text f.kind ++ codes " stage " ++ decimal f.stage
+    ++ codes " item " ++ place_text f.origin
 
 -- an answer, given the names of all jobs
 abbrev pub answer_text : List (List ℕ) → Answer → List ℕ
@@ -72,9 +74,15 @@ fault_json name f =
 
 -- the object of a job: its name and its answer, given the names of all jobs; keys stand in the order of their bytes
 abbrev pub job_json : List (List ℕ) → List ℕ → Answer → Data
-job_json names name (answer.Number v) = object (member (codes "name") (string name) (member (codes "number") (integer_json v) no_members))
-job_json names name (answer.Truth b) = object (member (codes "name") (string name) (member (codes "truth") (boolean b) no_members))
-job_json names name (answer.Optional o) = object (member (codes "name") (string name) (member (codes "optional") (optional_json o) no_members))
-job_json names name (answer.Array vs) = object (member (codes "array") (array (items_of (map integer_json vs))) (member (codes "name") (string name) no_members))
+job_json names name (answer.Number v) = object
+    (member (codes "name") (string name) (member (codes "number") (integer_json v) no_members))
+job_json names name (answer.Truth b) = object
+    (member (codes "name") (string name) (member (codes "truth") (boolean b) no_members))
+job_json names name (answer.Optional o) =
+    object (member (codes "name") (string name) (member (codes "optional") (optional_json o) no_members))
+job_json names name (answer.Array vs) = object
+    (member (codes "array") (array (items_of (map integer_json vs))) (member (codes "name") (string name) no_members))
 job_json names name (answer.Fault f) = fault_json name f
-job_json names name (answer.Unusable i) = object (member (codes "name") (string name) (member (codes "unusable") (string (slice_index_or names i [])) no_members))
+job_json names name (answer.Unusable i) =
+    object (member (codes "name") (string name)
+    (member (codes "unusable") (string (slice_index_or names i [])) no_members))

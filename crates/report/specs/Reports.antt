@@ -1,5 +1,6 @@
 -- Meaning: the report of the jobs that a job file spells over a column file, in the form that is asked for.
-use Rattle.std.specs.Prelude.{◌≡◌, ◌||◌, ◌&&◌, ℕ, Bool, not, nat_le, List, [], Option, Some, None, Result, Ok, if◌then◌else◌}
+use Rattle.std.specs.Prelude.{◌≡◌, ◌||◌, ◌&&◌, ℕ, Bool, not, nat_le, List, [], Option, Some, None, Result, Ok}
+use Rattle.std.specs.Prelude.{if◌then◌else◌}
 use Rattle.columns.specs.declared.fault.ColumnFault.{ColumnFault}
 use Rattle.columns.specs.TableForms.{AbstractForm, cells_by}
 use Rattle.tables.specs.Table.{NamedColumn}
@@ -26,9 +27,15 @@ pub record Input : Type 0 where
 
 -- helper: the form that a setting asks for, where columns are looked at under these names
 abbrev pub form_with : TableSetting → List (List ℕ) → AbstractForm
-form_with setting names = record { separator = byte_of setting.separator; is_all = not setting.only_named; names = names; blank = setting.blank }
+form_with setting names = record {
+  separator = byte_of setting.separator;
+  is_all = not setting.only_named;
+  names = names;
+  blank = setting.blank;
+}
 
--- whether how a column file is read depends on the job file: where only named columns are looked at, and where job files
+-- whether how a column file is read depends on the job file: where only named columns are looked at, and where job
+-- files
 -- of version 3 are read, which may look at columns with decimal places
 abbrev pub reads_by_jobs : Asked → Bool
 reads_by_jobs asked = asked.table.only_named || nat_le 3 asked.newest

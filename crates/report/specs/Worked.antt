@@ -7,11 +7,13 @@ use Rattle.trace.specs.Stages.{map, filter}
 use Rattle.slice_ops.specs.Slices.{limit, skip, take_while, drop_while}
 use Rattle.reduce_ops.specs.declared.op.Op.TheVariants as op
 use Rattle.tables.specs.Table.{NamedColumn}
-use Rattle.job_language.specs.Jobs.{AbstractPlainSource, range, values, AbstractJobStage, item, slice, prefix, AbstractTerminal, sum, min, to_array, exact_sum, AbstractJob}
+use Rattle.job_language.specs.Jobs.{AbstractPlainSource, range, values, AbstractJobStage, item, slice, prefix}
+use Rattle.job_language.specs.Jobs.{AbstractTerminal, sum, min, to_array, exact_sum, AbstractJob}
 
 -- helper: a job of one source
 abbrev pub job : List ℕ → AbstractPlainSource → List AbstractJobStage → AbstractTerminal → AbstractJob
-job name source stages terminal = record { name = name; sources = source ∷ []; stages = stages; terminal = terminal; on_fault = None; table = [] }
+job name source stages terminal = record
+    { name = name; sources = source ∷ []; stages = stages; terminal = terminal; on_fault = None; table = [] }
 
 -- helper: the job, with a number to give after a fault
 abbrev pub with_fallback : ℤ → AbstractJob → AbstractJob
@@ -39,7 +41,8 @@ passes_the_greatest = job (codes "w") (values (pos 9223372036854775807 ∷ pos 1
 
 -- f = of(1, 0).map(x -> 1 / (x - 0)).map(x -> 1 / (x - 1)).toArray()
 abbrev pub meets_two_zeros : List AbstractJob
-meets_two_zeros = job (codes "f") (values (pos 1 ∷ pos 0 ∷ [])) (divided (pos 1) (pos 0) ∷ divided (pos 1) (pos 1) ∷ []) to_array ∷ []
+meets_two_zeros = job (codes "f") (values (pos 1 ∷ pos 0 ∷ [])) (divided (pos 1) (pos 0) ∷ divided (pos 1) (pos 1) ∷ [])
+    to_array ∷ []
 
 -- p = of(10, 1, 2, 3, 4).prefix(1, 4, sum).toArray()
 -- o = of(10, 1, 2, 3, 4).prefix(1, 6, sum).toArray()
@@ -61,7 +64,9 @@ names_two_bad_jobs =
     job (codes "a") (values (pos 1 ∷ [])) [] sum
     ∷ job (codes "b") (values (pos 5 ∷ [])) (item (filter (compare Greater (parameter 0) (number (pos 7)))) ∷ []) min
     ∷ job (codes "c") (values (pos 0 ∷ [])) (divided (pos 1) (pos 0) ∷ []) sum
-    ∷ job (codes "u") (values (pos 1 ∷ pos 2 ∷ [])) (item (map (binary Add (parameter 0) (binary Add (reference (codes "a")) (binary Add (reference (codes "b")) (reference (codes "c")))))) ∷ []) sum
+    ∷ job (codes "u") (values (pos 1 ∷ pos 2 ∷ []))
+    (item (map (binary Add (parameter 0)
+    (binary Add (reference (codes "a")) (binary Add (reference (codes "b")) (reference (codes "c")))))) ∷ []) sum
     ∷ []
 
 -- helper: map(x -> x / (x / x))
@@ -87,9 +92,11 @@ abbrev pub gives_a_number_for_a_fault : List AbstractJob
 gives_a_number_for_a_fault =
     with_fallback (negsuc 0) (job (codes "s") (range (pos 0) (pos 10)) (divided (pos 10) (pos 7) ∷ []) sum)
     ∷ with_fallback (negsuc 0) (job (codes "m") (range (pos 0) (pos 10)) (divided (pos 10) (pos 7) ∷ []) min)
-    ∷ with_fallback (negsuc 0) (job (codes "n") (values (pos 5 ∷ [])) (item (filter (compare Greater (parameter 0) (number (pos 7)))) ∷ []) min)
+    ∷ with_fallback (negsuc 0) (job (codes "n") (values (pos 5 ∷ []))
+    (item (filter (compare Greater (parameter 0) (number (pos 7)))) ∷ []) min)
     ∷ job (codes "t") (values (pos 1 ∷ [])) (item (map (binary Add (parameter 0) (reference (codes "s")))) ∷ []) sum
-    ∷ with_fallback (negsuc 0) (job (codes "v") (values (pos 1 ∷ [])) (item (map (binary Add (parameter 0) (reference (codes "n")))) ∷ []) sum)
+    ∷ with_fallback (negsuc 0) (job (codes "v") (values (pos 1 ∷ []))
+    (item (map (binary Add (parameter 0) (reference (codes "n")))) ∷ []) sum)
     ∷ []
 
 -- l = range(0, 10).map(x -> 10 / (x - 7)).limit(7).toArray()
@@ -102,8 +109,10 @@ takes_a_part =
     job (codes "l") (range (pos 0) (pos 10)) (divided (pos 10) (pos 7) ∷ slice (limit 7) ∷ []) to_array
     ∷ job (codes "h") (range (pos 0) (pos 10)) (divided (pos 10) (pos 7) ∷ slice (limit 8) ∷ []) to_array
     ∷ job (codes "k") (range (pos 5) (pos 9)) (divided (pos 10) (pos 7) ∷ slice (skip 3) ∷ []) to_array
-    ∷ job (codes "t") (range (pos 0) (pos 10)) (slice (drop_while (below (pos 3))) ∷ slice (take_while (below (pos 6))) ∷ slice (skip 1) ∷ []) to_array
-    ∷ job (codes "w") (range (pos 0) (pos 10)) (slice (take_while (below (pos 2))) ∷ divided (pos 10) (pos 2) ∷ []) to_array
+    ∷ job (codes "t") (range (pos 0) (pos 10))
+    (slice (drop_while (below (pos 3))) ∷ slice (take_while (below (pos 6))) ∷ slice (skip 1) ∷ []) to_array
+    ∷ job (codes "w") (range (pos 0) (pos 10)) (slice (take_while (below (pos 2))) ∷ divided (pos 10) (pos 2) ∷ [])
+    to_array
     ∷ []
 
 -- a table of two columns: price 3, 5, 7 and quantity 4, 10, -1
@@ -115,7 +124,8 @@ sold =
 
 -- helper: a job over the prices of the table
 abbrev pub over_prices : List ℕ → List AbstractJobStage → AbstractTerminal → AbstractJob
-over_prices name stages terminal = record (job name (values (pos 3 ∷ pos 5 ∷ pos 7 ∷ [])) stages terminal) { table = sold }
+over_prices name stages terminal = record (job name (values (pos 3 ∷ pos 5 ∷ pos 7 ∷ [])) stages terminal)
+    { table = sold }
 
 -- r = column("price").filter(p -> cell("quantity") > 0).map(p -> p - cell("quantity")).toArray()
 -- p = column("price").filter(p -> p > 3).map(p -> row()).toArray()
@@ -123,9 +133,12 @@ over_prices name stages terminal = record (job name (values (pos 3 ∷ pos 5 ∷
 abbrev pub looks_at_rows : List AbstractJob
 looks_at_rows =
     let quantity = cell (codes "quantity") in
-    over_prices (codes "r") (item (filter (compare Greater quantity (number (pos 0)))) ∷ item (map (binary Subtract (parameter 0) quantity)) ∷ []) to_array
-    ∷ over_prices (codes "p") (item (filter (compare Greater (parameter 0) (number (pos 3)))) ∷ item (map row) ∷ []) to_array
-    ∷ over_prices (codes "d") (item (map (binary Divide (parameter 0) (binary Subtract quantity (number (pos 10))))) ∷ []) to_array
+    over_prices (codes "r") (item (filter (compare Greater quantity (number (pos 0))))
+    ∷ item (map (binary Subtract (parameter 0) quantity)) ∷ []) to_array
+    ∷ over_prices (codes "p") (item (filter (compare Greater (parameter 0) (number (pos 3)))) ∷ item (map row) ∷ [])
+    to_array
+    ∷ over_prices (codes "d") (item (map (binary Divide (parameter 0) (binary Subtract quantity (number (pos 10)))))
+    ∷ []) to_array
     ∷ []
 
 -- a comment, an empty line, `version 2` between blanks, and a job of two lines

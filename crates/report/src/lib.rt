@@ -8,6 +8,8 @@
 //! `specs/AnswerForms.antt` and `answer_forms.rt` say what an answer looks like in either form.
 //! Begin with these, then `as_text.rt`, and `draft.rt` for arrays that are printed on threads.
 //! Not promised: what a file or a terminal holds afterwards; that is known of writers over memory.
+//!
+//! Tested: `reports.rt` of `test_engine`; runs of the programs in `tests`.
 #![tactic(auto)]
 
 mod answer_forms;

@@ -1,5 +1,6 @@
 -- Walks that begin at a later place, walks over other tables, and places that lie within a number of rows.
-use Rattle.std.proofs.Common.{◌≡◌, ℕ, suc, ◌+◌, ◌<◌, ◌≤◌, ◌^◌, ℤ, Bool, true, false, ◌&&◌, List, [], ◌∷◌, ◌++◌, length, Option, Some, None, Result, Ok, Err, refl, sym, ap, ◌∙◌, append-nil, arith}
+use Rattle.std.proofs.Common.{◌≡◌, ℕ, suc, ◌+◌, ◌<◌, ◌≤◌, ◌^◌, ℤ, Bool, true, false, ◌&&◌, List, [], ◌∷◌, ◌++◌, length}
+use Rattle.std.proofs.Common.{Option, Some, None, Result, Ok, Err, refl, sym, ap, ◌∙◌, append-nil, arith}
 use Rattle.std.specs.List.{list_all}
 use Rattle.lambda_values.specs.declared.fault.FaultKind.{FaultKind}
 use Rattle.lambda_values.specs.Earlier.{Numbers}
@@ -10,7 +11,8 @@ use Rattle.lambda_values.proofs.Placeless.{placeless_inner, placeless_long, plac
 use Rattle.trace.specs.declared.item.End.{End}
 use Rattle.trace.specs.declared.item.End.TheVariants as end
 use Rattle.trace.specs.Cover.{placed, cover, values as listed}
-use Rattle.trace.specs.Stages.{AbstractStage, map, filter, flat_map, image, passed, at_place, flattened, of_item, through}
+use Rattle.trace.specs.Stages.{AbstractStage, map, filter, flat_map, image, passed, at_place, flattened, of_item}
+use Rattle.trace.specs.Stages.{through}
 use Rattle.trace.specs.Trace.{Trace, trace, then_on, append, each}
 use Rattle.trace.proofs.CoverLemmas.{cover_short}
 use Rattle.trace.proofs.JoinLemmas.{each_append}
@@ -40,7 +42,8 @@ items_joined : (k : ℕ) (xs ys : List Item) → later_items k (xs ++ ys) ≡ la
 items_joined k [] ys = refl
 items_joined k (x ∷ xs) ys = ap (λ (zs : List Item). later_item k x ∷ zs) (items_joined k xs ys)
 
-later_on : (k : ℕ) (xs : List Item) (e : End) (b : Trace) → later k (then_on xs e b) ≡ then_on (later_items k xs) (later_end k e) (later k b)
+later_on : (k : ℕ) (xs : List Item) (e : End) (b : Trace)
+    → later k (then_on xs e b) ≡ then_on (later_items k xs) (later_end k e) (later k b)
 later_on k xs end.Done b = ap (λ (zs : List Item). trace zs (later_end k b.ending)) (items_joined k xs b.items)
 later_on k xs (end.Fault f) b = refl
 
@@ -60,7 +63,8 @@ place_later : (k i : ℕ) (vs : List ℤ) → at_place (k + i) vs ≡ later_item
 place_later k i [] = refl
 place_later k i (v ∷ vs) = ap (λ (zs : List Item). record { origin = k + i; value = v } ∷ zs) (place_later k i vs)
 
-flattened_later : (k n : ℕ) (x : Item) (r : Result (List ℤ) FaultKind) → flattened n (later_item k x) r ≡ later k (flattened n x r)
+flattened_later : (k n : ℕ) (x : Item) (r : Result (List ℤ) FaultKind)
+    → flattened n (later_item k x) r ≡ later k (flattened n x r)
 flattened_later k n x (Ok vs) = ap (λ (zs : List Item). trace zs end.Done) (place_later k x.origin vs)
 flattened_later k n x (Err f) = refl
 
@@ -68,12 +72,17 @@ flattened_later k n x (Err f) = refl
 abbrev pub IsPlaceless : AbstractStage → Type 0
 IsPlaceless g = stage_is_placeless (item g) ≡ true
 
-item_later : (k n : ℕ) (g : AbstractStage) (env : Numbers) (x : Item) → IsPlaceless g → of_item n g env (later_item k x) ≡ later k (of_item n g env x)
-item_later k n (map e) env x p = ap (image n (later_item k x)) (placeless_long e (later_item k x) x env env refl refl p) ∙ image_later k n x (long_value e x env)
-item_later k n (filter t) env x p = ap (passed n (later_item k x)) (placeless_truth t (later_item k x) x env env refl refl p) ∙ passed_later k n x (truth_value t x env)
-item_later k n (flat_map g) env x p = ap (flattened n (later_item k x)) (placeless_inner g (later_item k x) x env env refl refl p) ∙ flattened_later k n x (inner_value g x env)
+item_later : (k n : ℕ) (g : AbstractStage) (env : Numbers) (x : Item) → IsPlaceless g
+    → of_item n g env (later_item k x) ≡ later k (of_item n g env x)
+item_later k n (map e) env x p = ap (image n (later_item k x)) (placeless_long e (later_item k x) x env env refl refl p)
+    ∙ image_later k n x (long_value e x env)
+item_later k n (filter t) env x p = ap (passed n (later_item k x))
+    (placeless_truth t (later_item k x) x env env refl refl p) ∙ passed_later k n x (truth_value t x env)
+item_later k n (flat_map g) env x p = ap (flattened n (later_item k x))
+    (placeless_inner g (later_item k x) x env env refl refl p) ∙ flattened_later k n x (inner_value g x env)
 
-each_later : (k n : ℕ) (g : AbstractStage) (env : Numbers) (xs : List Item) (e : End) → IsPlaceless g → each (of_item n g env) (later_items k xs) (later_end k e) ≡ later k (each (of_item n g env) xs e)
+each_later : (k n : ℕ) (g : AbstractStage) (env : Numbers) (xs : List Item) (e : End) → IsPlaceless g
+    → each (of_item n g env) (later_items k xs) (later_end k e) ≡ later k (each (of_item n g env) xs e)
 each_later k n g env [] e p = refl
 each_later k n g env (x ∷ xs) e p =
     ap (λ (t : Trace). append t (each (of_item n g env) (later_items k xs) (later_end k e))) (item_later k n g env x p)
@@ -81,7 +90,8 @@ each_later k n g env (x ∷ xs) e p =
     ∙ sym (later_append k (of_item n g env x) (each (of_item n g env) xs e))
 
 -- of several stages the first one, and then the others
-pub first_placeless : (g : AbstractJobStage) (gs : List AbstractJobStage) → list_all stage_is_placeless (g ∷ gs) ≡ true → (stage_is_placeless g ≡ true) × (list_all stage_is_placeless gs ≡ true)
+pub first_placeless : (g : AbstractJobStage) (gs : List AbstractJobStage) → list_all stage_is_placeless (g ∷ gs) ≡ true
+    → (stage_is_placeless g ≡ true) × (list_all stage_is_placeless gs ≡ true)
 first_placeless g gs h = both (stage_is_placeless g) (list_all stage_is_placeless gs) h
   where
     both : (a b : Bool) → (a && b) ≡ true → (a ≡ true) × (b ≡ true)
@@ -92,11 +102,13 @@ no_slice : {A : Type 0} → false ≡ true → A
 no_slice h = absurd (let z : false ≡ true = h in cc)
 
 -- stages that look at one item at a time, without cells and rows, don't look at its place
-pub stages_later : (k n : ℕ) (gs : List AbstractJobStage) (env : Numbers) (t : Trace) → are_items gs ≡ true → list_all stage_is_placeless gs ≡ true → after_stages n gs env (later k t) ≡ later k (after_stages n gs env t)
+pub stages_later : (k n : ℕ) (gs : List AbstractJobStage) (env : Numbers) (t : Trace) → are_items gs ≡ true
+    → list_all stage_is_placeless gs ≡ true → after_stages n gs env (later k t) ≡ later k (after_stages n gs env t)
 stages_later k n [] env t good p = refl
 stages_later k n (item g ∷ gs) env t good p =
     let parts = first_placeless (item g) gs p in
-    ap (after_stages (suc n) gs env) (each_later k n g env t.items t.ending parts.0) ∙ stages_later k (suc n) gs env (through n g env t) good parts.1
+    ap (after_stages (suc n) gs env) (each_later k n g env t.items t.ending parts.0)
+    ∙ stages_later k (suc n) gs env (through n g env t) good parts.1
 stages_later k n (slice d ∷ gs) env t good p = no_slice good
 stages_later k n (prefix r f ∷ gs) env t good p = no_slice good
 stages_later k n (sorted ∷ gs) env t good p = no_slice good
@@ -110,26 +122,31 @@ module _ (a b : Numbers) (same : a.earlier ≡ b.earlier) where
   item_over n (filter t) x p = ap (passed n x) (placeless_truth t x x a b refl same p)
   item_over n (flat_map g) x p = ap (flattened n x) (placeless_inner g x x a b refl same p)
 
-  each_over : (n : ℕ) (g : AbstractStage) (xs : List Item) (e : End) → IsPlaceless g → each (of_item n g a) xs e ≡ each (of_item n g b) xs e
+  each_over : (n : ℕ) (g : AbstractStage) (xs : List Item) (e : End) → IsPlaceless g
+      → each (of_item n g a) xs e ≡ each (of_item n g b) xs e
   each_over n g [] e p = refl
   each_over n g (x ∷ xs) e p = λ i. append (item_over n g x p i) (each_over n g xs e p i)
 
   -- nor do they look at the table
-  pub stages_over : (n : ℕ) (gs : List AbstractJobStage) (t : Trace) → are_items gs ≡ true → list_all stage_is_placeless gs ≡ true → after_stages n gs a t ≡ after_stages n gs b t
+  pub stages_over : (n : ℕ) (gs : List AbstractJobStage) (t : Trace) → are_items gs ≡ true
+      → list_all stage_is_placeless gs ≡ true → after_stages n gs a t ≡ after_stages n gs b t
   stages_over n [] t good p = refl
   stages_over n (item g ∷ gs) t good p =
       let parts = first_placeless (item g) gs p in
-      ap (after_stages (suc n) gs a) (each_over n g t.items t.ending parts.0) ∙ stages_over (suc n) gs (through n g b t) good parts.1
+      ap (after_stages (suc n) gs a) (each_over n g t.items t.ending parts.0)
+      ∙ stages_over (suc n) gs (through n g b t) good parts.1
   stages_over n (slice d ∷ gs) t good p = no_slice good
   stages_over n (prefix r f ∷ gs) t good p = no_slice good
   stages_over n (sorted ∷ gs) t good p = no_slice good
   stages_over n (distinct seen ∷ gs) t good p = no_slice good
 
 -- they keep walks joined
-pub stages_joined : (n : ℕ) (gs : List AbstractJobStage) (env : Numbers) (a b : Trace) → are_items gs ≡ true → after_stages n gs env (append a b) ≡ append (after_stages n gs env a) (after_stages n gs env b)
+pub stages_joined : (n : ℕ) (gs : List AbstractJobStage) (env : Numbers) (a b : Trace) → are_items gs ≡ true
+    → after_stages n gs env (append a b) ≡ append (after_stages n gs env a) (after_stages n gs env b)
 stages_joined n [] env a b good = refl
 stages_joined n (item g ∷ gs) env a b good =
-    ap (after_stages (suc n) gs env) (each_append (of_item n g env) a b) ∙ stages_joined (suc n) gs env (through n g env a) (through n g env b) good
+    ap (after_stages (suc n) gs env) (each_append (of_item n g env) a b)
+    ∙ stages_joined (suc n) gs env (through n g env a) (through n g env b) good
 stages_joined n (slice d ∷ gs) env a b good = no_slice good
 stages_joined n (prefix r f ∷ gs) env a b good = no_slice good
 stages_joined n (sorted ∷ gs) env a b good = no_slice good
@@ -157,7 +174,8 @@ items_within : (m : ℕ) (xs ys : List Item) → ItemsWithin m xs → ItemsWithi
 items_within m [] ys h k = k
 items_within m (x ∷ xs) ys h k = (h.0, items_within m xs ys h.1 k)
 
-on_within : (m : ℕ) (xs : List Item) (e : End) (b : Trace) → ItemsWithin m xs → EndWithin m e → Within m b → Within m (then_on xs e b)
+on_within : (m : ℕ) (xs : List Item) (e : End) (b : Trace) → ItemsWithin m xs → EndWithin m e → Within m b
+    → Within m (then_on xs e b)
 on_within m xs end.Done b h k w = record { items = items_within m xs b.items h w.items; ending = w.ending }
 on_within m xs (end.Fault f) b h k w = record { items = h; ending = k }
 
@@ -186,13 +204,17 @@ item_within m n (map e) env x h = image_within m n x (long_value e x env) h
 item_within m n (filter p) env x h = passed_within m n x (truth_value p x env) h
 item_within m n (flat_map g) env x h = flattened_within m n x (inner_value g x env) h
 
-each_within : (m n : ℕ) (g : AbstractStage) (env : Numbers) (xs : List Item) (e : End) → ItemsWithin m xs → EndWithin m e → Within m (each (of_item n g env) xs e)
+each_within : (m n : ℕ) (g : AbstractStage) (env : Numbers) (xs : List Item) (e : End) → ItemsWithin m xs
+    → EndWithin m e → Within m (each (of_item n g env) xs e)
 each_within m n g env [] e h k = record { items = tt; ending = k }
-each_within m n g env (x ∷ xs) e h k = append_within m (of_item n g env x) (each (of_item n g env) xs e) (item_within m n g env x h.0) (each_within m n g env xs e h.1 k)
+each_within m n g env (x ∷ xs) e h k = append_within m (of_item n g env x) (each (of_item n g env) xs e)
+    (item_within m n g env x h.0) (each_within m n g env xs e h.1 k)
 
-pub stages_within : (m n : ℕ) (gs : List AbstractJobStage) (env : Numbers) (t : Trace) → are_items gs ≡ true → Within m t → Within m (after_stages n gs env t)
+pub stages_within : (m n : ℕ) (gs : List AbstractJobStage) (env : Numbers) (t : Trace) → are_items gs ≡ true
+    → Within m t → Within m (after_stages n gs env t)
 stages_within m n [] env t good w = w
-stages_within m n (item g ∷ gs) env t good w = stages_within m (suc n) gs env (through n g env t) good (each_within m n g env t.items t.ending w.items w.ending)
+stages_within m n (item g ∷ gs) env t good w =
+    stages_within m (suc n) gs env (through n g env t) good (each_within m n g env t.items t.ending w.items w.ending)
 stages_within m n (slice d ∷ gs) env t good w = no_slice good
 stages_within m n (prefix r f ∷ gs) env t good w = no_slice good
 stages_within m n (sorted ∷ gs) env t good w = no_slice good
@@ -207,19 +229,23 @@ placed_later : (k i : ℕ) (vs : List ℤ) → placed (k + i) vs ≡ later_items
 placed_later k i [] = refl
 placed_later k i (v ∷ vs) =
     let e : suc (k + i) ≡ k + suc i = omega arith in
-    ap (λ (zs : List Item). record { origin = k + i; value = v } ∷ zs) (ap (λ (j : ℕ). placed j vs) e ∙ placed_later k (suc i) vs)
+    ap (λ (zs : List Item). record { origin = k + i; value = v } ∷ zs)
+    (ap (λ (j : ℕ). placed j vs) e ∙ placed_later k (suc i) vs)
 
 placed_joined : (i : ℕ) (vs ws : List ℤ) → placed i (vs ++ ws) ≡ placed i vs ++ placed (i + length vs) ws
 placed_joined i [] ws = let e : i ≡ i + 0 = omega arith in ap (λ (j : ℕ). placed j ws) e
 placed_joined i (v ∷ vs) ws =
     let e : suc i + length vs ≡ i + suc (length vs) = omega arith in
-    ap (λ (zs : List Item). record { origin = i; value = v } ∷ zs) (placed_joined (suc i) vs ws ∙ ap (λ (j : ℕ). placed (suc i) vs ++ placed j ws) e)
+    ap (λ (zs : List Item). record { origin = i; value = v } ∷ zs)
+    (placed_joined (suc i) vs ws ∙ ap (λ (j : ℕ). placed (suc i) vs ++ placed j ws) e)
 
 -- the walk over values and others is the walk over the first ones, and then the walk over the others, so much later
 pub walk_joined : (vs ws : List ℤ) → walk_over (vs ++ ws) ≡ append (walk_over vs) (later (length vs) (walk_over ws))
 walk_joined vs ws =
     let e : 0 + length vs ≡ length vs + 0 = omega arith in
-    ap (λ (zs : List Item). trace zs end.Done) (placed_joined 0 vs ws ∙ ap (λ (zs : List Item). placed 0 vs ++ zs) (ap (λ (j : ℕ). placed j ws) e ∙ placed_later (length vs) 0 ws))
+    ap (λ (zs : List Item). trace zs end.Done)
+    (placed_joined 0 vs ws ∙ ap (λ (zs : List Item). placed 0 vs ++ zs)
+    (ap (λ (j : ℕ). placed j ws) e ∙ placed_later (length vs) 0 ws))
 
 placed_within : (m i : ℕ) (vs : List ℤ) → i + length vs ≤ m → ItemsWithin m (placed i vs)
 placed_within m i [] h = tt
@@ -229,10 +255,12 @@ placed_within m i (v ∷ vs) h =
     (here, placed_within m (suc i) vs more)
 
 pub walk_within : (vs : List ℤ) → Within (length vs) (walk_over vs)
-walk_within vs = let e : 0 + length vs ≤ length vs = omega arith in record { items = placed_within (length vs) 0 vs e; ending = tt }
+walk_within vs = let e : 0 + length vs ≤ length vs = omega arith in
+    record { items = placed_within (length vs) 0 vs e; ending = tt }
 
 -- the walk over one source that isn't too long
-pub one_source : (s : AbstractPlainSource) (vs : List ℤ) → plain_values s ≡ vs → length vs ≤ 2 ^ 62 → source_walk (s ∷ []) ≡ walk_over vs
+pub one_source : (s : AbstractPlainSource) (vs : List ℤ) → plain_values s ≡ vs → length vs ≤ 2 ^ 62
+    → source_walk (s ∷ []) ≡ walk_over vs
 one_source s vs is fits =
     let same : plain_values s ++ [] ≡ vs = append-nil (plain_values s) ∙ is in
     ap (λ (us : List ℤ). cover (listed us)) same ∙ cover_short (listed vs) fits

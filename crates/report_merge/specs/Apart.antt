@@ -1,5 +1,6 @@
 -- Design: what a refusal to merge parts says.
-use Rattle.std.specs.Prelude.{◌≡◌, ℕ, ◌+◌, ◌<◌, ◌^◌, ◌⊎◌, is_some, if◌then◌else◌, List, [], ◌∷◌, ◌++◌, length, Option, Some, None}
+use Rattle.std.specs.Prelude.{◌≡◌, ℕ, ◌+◌, ◌<◌, ◌^◌, ◌⊎◌, is_some, if◌then◌else◌, List, [], ◌∷◌, ◌++◌, length, Option}
+use Rattle.std.specs.Prelude.{Some, None}
 use Rattle.job_language.specs.Jobs.{AbstractJob}
 use Rattle.job_meaning.specs.declared.answer.Answer.{Answer}
 use Rattle.report_merge.specs.declared.fault.MergeFault.{MergeFault}
@@ -24,7 +25,8 @@ first_unpaired n [] (a ∷ ls) = Some n
 first_unpaired n (job ∷ jobs) [] = Some n
 first_unpaired n (job ∷ jobs) (a ∷ ls) = first_unpaired (n + 1) jobs ls
 
--- the parts before the one with this number can be merged, but not with its answers; this is the first job for which they
+-- the parts before the one with this number can be merged, but not with its answers; this is the first job for which
+-- they
 -- can't
 pub record IsApart (jobs : List AbstractJob) (parts : List Part) (number job : ℕ) : Type 0 where
   pub before : List Part
@@ -50,7 +52,8 @@ IsRefusal jobs parts (OfPart number job) = IsApart jobs parts number job ⊎ IsU
 IsRefusal jobs parts TooManyRows = 2 ^ 62 < rows_in parts
 IsRefusal jobs parts NoMemory = Unit {0}
 
--- helper: what a refusal says of the part with this number: together with those before it has this many rows, and this is
+-- helper: what a refusal says of the part with this number: together with those before it has this many rows, and this
+-- is
 -- the first job for which it is refused, if there is one
 abbrev pub IsRefusedAt : ℕ → ℕ → Option ℕ → MergeFault → Type 0
 IsRefusedAt number rows job NoPart = ⊥

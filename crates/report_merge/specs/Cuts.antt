@@ -12,9 +12,11 @@ use Rattle.report_merge.specs.Merging.{Part}
 abbrev pub Row : Type 0
 Row = List (List ℕ)
 
--- the bytes spell these jobs over the table with this header and these rows, which is read in this form, where the newest
+-- the bytes spell these jobs over the table with this header and these rows, which is read in this form, where the
+-- newest
 -- version of the language is this
-pub record IsOver (form : AbstractForm) (newest : ℕ) (bytes : List ℕ) (header : Row) (rows : List Row) (jobs : List AbstractJob) : Type 0 where
+pub record IsOver (form : AbstractForm) (newest : ℕ) (bytes : List ℕ) (header : Row) (rows : List Row)
+    (jobs : List AbstractJob) : Type 0 where
   pub columns : List NamedColumn
   pub table : table_by form (header ∷ rows) ≡ Ok columns
   pub spelled : SpellsJobsWithin newest bytes columns jobs
@@ -31,7 +33,8 @@ asked (h ∷ hs) [] = []
 asked (h ∷ hs) (job ∷ jobs) = asked_job h job ∷ asked hs jobs
 
 -- these are the rows of the part, and its answers are what the jobs mean over them
-pub record IsAnswered (form : AbstractForm) (newest : ℕ) (bytes : List ℕ) (header : Row) (unfilled : List AbstractJob) (rows : List Row) (p : Part) : Type 0 where
+pub record IsAnswered (form : AbstractForm) (newest : ℕ) (bytes : List ℕ) (header : Row) (unfilled : List AbstractJob)
+    (rows : List Row) (p : Part) : Type 0 where
   pub count : p.rows ≡ length rows
   pub jobs : List AbstractJob
   pub over : IsOver form newest bytes header rows jobs
@@ -42,7 +45,8 @@ abbrev pub AreAnswered : AbstractForm → ℕ → List ℕ → Row → List Abst
 AreAnswered form newest bytes header unfilled [] [] = Unit {0}
 AreAnswered form newest bytes header unfilled [] (p ∷ ps) = ⊥
 AreAnswered form newest bytes header unfilled (rows ∷ tables) [] = ⊥
-AreAnswered form newest bytes header unfilled (rows ∷ tables) (p ∷ ps) = IsAnswered form newest bytes header unfilled rows p × AreAnswered form newest bytes header unfilled tables ps
+AreAnswered form newest bytes header unfilled (rows ∷ tables) (p ∷ ps) =
+    IsAnswered form newest bytes header unfilled rows p × AreAnswered form newest bytes header unfilled tables ps
 
 -- the rows of the whole: those of its parts, one part after the other
 abbrev pub all_rows : List (List Row) → List Row
@@ -54,9 +58,11 @@ abbrev pub AreBare : List NamedColumn → Type 0
 AreBare [] = Unit {0}
 AreBare (c ∷ cs) = (c.cells ≡ []) × AreBare cs
 
--- a table in parts with their answers, all read in this form: the bytes spell the first jobs with columns without cells,
+-- a table in parts with their answers, all read in this form: the bytes spell the first jobs with columns without
+-- cells,
 -- and the last ones over the whole table
-pub record IsCut (form : AbstractForm) (newest : ℕ) (bytes : List ℕ) (unfilled : List AbstractJob) (parts : List Part) (whole : List AbstractJob) : Type 0 where
+pub record IsCut (form : AbstractForm) (newest : ℕ) (bytes : List ℕ) (unfilled : List AbstractJob) (parts : List Part)
+    (whole : List AbstractJob) : Type 0 where
   pub header : Row
   pub tables : List (List Row)
   pub columns : List NamedColumn

@@ -3,12 +3,14 @@ use Rattle.std.specs.Prelude.{ℕ, ◌++◌, List, codes, decimal}
 use Rattle.report_merge.specs.declared.fault.MergeFault.{MergeFault}
 use Rattle.report_merge.specs.declared.fault.MergeFault.TheVariants.{NoPart, Part as OfPart, TooManyRows, NoMemory}
 use Rattle.report_merge.specs.declared.unmergeable.Unmergeable.{Unmergeable}
-use Rattle.report_merge.specs.declared.unmergeable.Unmergeable.TheVariants.{Concat, Stage, Row, ExactSum, NoIdentity, NamesMerged}
+use Rattle.report_merge.specs.declared.unmergeable.Unmergeable.TheVariants.{Concat, Stage, Row, ExactSum, NoIdentity}
+use Rattle.report_merge.specs.declared.unmergeable.Unmergeable.TheVariants.{NamesMerged}
 
 -- of answers; parts and jobs count from 0
 abbrev pub merge_fault_text : MergeFault → List ℕ
 merge_fault_text NoPart = codes "there is no report"
-merge_fault_text (OfPart part job) = codes "the answer of part " ++ (decimal part ++ (codes " can't be of job " ++ decimal job))
+merge_fault_text (OfPart part job) = codes "the answer of part "
+    ++ (decimal part ++ (codes " can't be of job " ++ decimal job))
 merge_fault_text TooManyRows = codes "more rows than a table has"
 merge_fault_text NoMemory = codes "out of memory"
 

@@ -1,10 +1,13 @@
 -- Design: which jobs over a table can be answered from their answers over parts of it. The jobs are read with columns
 -- without cells.
-use Rattle.std.specs.Prelude.{ℕ, ◌+◌, ℤ, Bool, true, false, ◌&&◌, ◌||◌, if◌then◌else◌, List, [], ◌∷◌, ◌++◌, Option, Some, None}
+use Rattle.std.specs.Prelude.{ℕ, ◌+◌, ℤ, Bool, true, false, ◌&&◌, ◌||◌, if◌then◌else◌, List, [], ◌∷◌, ◌++◌, Option}
+use Rattle.std.specs.Prelude.{Some, None}
 use Rattle.std.specs.List.{list_all}
 use Rattle.std.specs.Ordering.{int_eq}
 use Rattle.reduce_ops.specs.Operators.{identity_of}
-use Rattle.job_language.specs.Jobs.{AbstractPlainSource, range, range_closed, values, result, AbstractJobStage, item, slice, prefix, sorted, distinct, AbstractTerminal, sum, count, min, max, to_array, reduce, reduce_from, find, exact_sum, AbstractJob}
+use Rattle.job_language.specs.Jobs.{AbstractPlainSource, range, range_closed, values, result, AbstractJobStage, item}
+use Rattle.job_language.specs.Jobs.{slice, prefix, sorted, distinct, AbstractTerminal, sum, count, min, max, to_array}
+use Rattle.job_language.specs.Jobs.{reduce, reduce_from, find, exact_sum, AbstractJob}
 use Rattle.job_language.specs.Places.{stage_is_placeless, terminal_is_placeless}
 use Rattle.job_meaning.specs.Names.{names_in_job, same_name}
 use Rattle.report_merge.specs.declared.unmergeable.Unmergeable.{Unmergeable}
@@ -57,7 +60,8 @@ abbrev pub unless : Bool → Unmergeable → Option Unmergeable
 unless true c = None
 unless false c = Some c
 
--- an exact sum of the whole may be in 64 bits though one of a part isn't, and the other way round; a fold begins in each part
+-- an exact sum of the whole may be in 64 bits though one of a part isn't, and the other way round; a fold begins in
+-- each part
 -- with its number, which is to change nothing
 abbrev pub terminal_cause : AbstractTerminal → Option Unmergeable
 terminal_cause sum = None
@@ -76,7 +80,9 @@ first_of_two (Some b) c = Some b
 
 -- why a job over a column can't be merged
 abbrev pub column_cause : AbstractJob → Option Unmergeable
-column_cause job = first_of_two (unless (is_single job.sources) cause.Concat) (first_of_two (unless (are_items job.stages) cause.Stage) (first_of_two (unless (job_is_placeless job) cause.Row) (terminal_cause job.terminal)))
+column_cause job = first_of_two (unless (is_single job.sources) cause.Concat)
+    (first_of_two (unless (are_items job.stages) cause.Stage)
+    (first_of_two (unless (job_is_placeless job) cause.Row) (terminal_cause job.terminal)))
 
 -- whether one of these jobs with this name is over a column
 abbrev pub is_column_job : List AbstractJob → List ℕ → Bool
@@ -102,7 +108,8 @@ cause_or place (Some c) later = Some (place, c)
 -- the first job below these that can't be merged, and why; the next job has this place
 abbrev pub unmergeable_below : ℕ → List AbstractJob → List AbstractJob → Option (ℕ × Unmergeable)
 unmergeable_below place above [] = None
-unmergeable_below place above (job ∷ jobs) = cause_or place (cause_below above job) (unmergeable_below (place + 1) (above ++ job ∷ []) jobs)
+unmergeable_below place above (job ∷ jobs) =
+    cause_or place (cause_below above job) (unmergeable_below (place + 1) (above ++ job ∷ []) jobs)
 
 abbrev pub first_unmergeable : List AbstractJob → Option (ℕ × Unmergeable)
 first_unmergeable jobs = unmergeable_below 0 [] jobs

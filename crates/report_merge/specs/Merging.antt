@@ -1,5 +1,6 @@
 -- Design: the answers of jobs over a table, made of their answers over its parts, one part after the other.
-use Rattle.std.specs.Prelude.{ℕ, ◌+◌, ◌^◌, ℤ, Bool, true, false, not, ◌&&◌, ◌==◌, nat_lt, is_some, if◌then◌else◌, List, [], ◌∷◌, ◌++◌, Option, Some, None}
+use Rattle.std.specs.Prelude.{ℕ, ◌+◌, ◌^◌, ℤ, Bool, true, false, not, ◌&&◌, ◌==◌, nat_lt, is_some, if◌then◌else◌, List}
+use Rattle.std.specs.Prelude.{[], ◌∷◌, ◌++◌, Option, Some, None}
 use Rattle.std.specs.Cmp.Lexicographic.{pointwise}
 use Rattle.std.specs.Ordering.{int_eq}
 use Rattle.lambda_values.specs.declared.fault.FaultKind.{FaultKind}
@@ -9,7 +10,8 @@ use Rattle.reduce_ops.specs.declared.op.Op.{Op}
 use Rattle.reduce_ops.specs.declared.op.Op.TheVariants as op
 use Rattle.reduce_ops.specs.Operators.{value_of}
 use Rattle.find_ops.specs.Finds.{Find, first, any_match, all_match, none_match}
-use Rattle.job_language.specs.Jobs.{AbstractTerminal, sum, count, min, max, to_array, reduce, reduce_from, find, exact_sum, AbstractJob}
+use Rattle.job_language.specs.Jobs.{AbstractTerminal, sum, count, min, max, to_array, reduce, reduce_from, find}
+use Rattle.job_language.specs.Jobs.{exact_sum, AbstractJob}
 use Rattle.job_meaning.specs.declared.answer.Answer.{Answer}
 use Rattle.job_meaning.specs.declared.answer.Answer.TheVariants as answer
 use Rattle.job_meaning.specs.Walks.{fallback_of, instead_of_fault}
@@ -176,7 +178,8 @@ answers_beside [] before rows [] (b ∷ bs) = None
 answers_beside [] before rows (a ∷ ls) bs = None
 answers_beside (job ∷ jobs) before rows [] bs = None
 answers_beside (job ∷ jobs) before rows (a ∷ ls) [] = None
-answers_beside (job ∷ jobs) before rows (a ∷ ls) (b ∷ bs) = both (answer_beside job before rows a b) (answers_beside jobs before rows ls bs)
+answers_beside (job ∷ jobs) before rows (a ∷ ls) (b ∷ bs) =
+    both (answer_beside job before rows a b) (answers_beside jobs before rows ls bs)
 
 -- helper: these rows with these answers, if there are any
 abbrev pub part_with : ℕ → Option (List Answer) → Option Part

@@ -1,6 +1,9 @@
--- Design: which answers a job can have over this many rows. Jobs over a column are asked without their `onFault`, and are
+-- Design: which answers a job can have over this many rows. Jobs over a column are asked without their `onFault`, and
+-- are
 -- read with columns without cells.
-use Rattle.std.specs.Prelude.{ℕ, zero, suc, ◌+◌, ◌-◌, ◌^◌, ℤ, pos, unsigned_abs, Bool, true, false, not, ◌&&◌, ◌||◌, ◌==◌, nat_lt, nat_le, int_le, if◌then◌else◌, List, [], ◌∷◌, ◌++◌, length, Option, Some, None}
+use Rattle.std.specs.Prelude.{ℕ, zero, suc, ◌+◌, ◌-◌, ◌^◌, ℤ, pos, unsigned_abs, Bool, true, false, not, ◌&&◌, ◌||◌}
+use Rattle.std.specs.Prelude.{◌==◌, nat_lt, nat_le, int_le, if◌then◌else◌, List, [], ◌∷◌, ◌++◌, length, Option, Some}
+use Rattle.std.specs.Prelude.{None}
 use Rattle.std.specs.Option.{is_none, is_some}
 use Rattle.std.specs.Ordering.{int_eq}
 use Rattle.lambda_values.specs.declared.fault.FaultKind.{FaultKind}
@@ -9,7 +12,8 @@ use Rattle.trace.specs.declared.item.Fault.{Fault}
 use Rattle.trace.specs.Stages.{map, filter, flat_map}
 use Rattle.slice_ops.specs.Slices.{limit, skip, take_while, drop_while}
 use Rattle.find_ops.specs.Finds.{Find, first, any_match, all_match, none_match}
-use Rattle.job_language.specs.Jobs.{AbstractJobStage, item, slice, prefix, sorted, distinct, AbstractTerminal, sum, count, min, max, to_array, reduce, reduce_from, find, exact_sum, AbstractJob}
+use Rattle.job_language.specs.Jobs.{AbstractJobStage, item, slice, prefix, sorted, distinct, AbstractTerminal, sum}
+use Rattle.job_language.specs.Jobs.{count, min, max, to_array, reduce, reduce_from, find, exact_sum, AbstractJob}
 use Rattle.job_meaning.specs.declared.answer.Answer.{Answer}
 use Rattle.job_meaning.specs.declared.answer.Answer.TheVariants as answer
 use Rattle.job_meaning.specs.FileAnswers.{NamedAnswer, first_unusable, jobs_found}
@@ -103,7 +107,8 @@ is_fallback (Some (answer.Number z)) (answer.Number w) = int_eq z w
 is_fallback o a = false
 
 abbrev pub value_can : AbstractJob → ℕ → Answer → Bool
-value_can job rows a = value_fits job.terminal (most_items job rows) a || (not (is_over_column job) && is_fallback (fallback_of job) a)
+value_can job rows a = value_fits job.terminal (most_items job rows) a
+    || (not (is_over_column job) && is_fallback (fallback_of job) a)
 
 -- ---- faults
 
@@ -184,7 +189,8 @@ abbrev pub source_can : AbstractJob → Fault → Bool
 source_can job f = not (is_over_column job) && (is_too_long f.kind && is_none f.origin)
 
 abbrev pub fault_fits : AbstractJob → ℕ → Fault → Bool
-fault_fits job rows f = if f.stage == 0 then source_can job f else later_can job.stages job.terminal (items_from job rows) (f.stage - 1) f
+fault_fits job rows f = if f.stage == 0 then source_can job f
+    else later_can job.stages job.terminal (items_from job rows) (f.stage - 1) f
 
 -- a job that reads no column has its `onFault`
 abbrev pub fault_can : AbstractJob → ℕ → Answer → Bool

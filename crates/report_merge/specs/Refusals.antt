@@ -2,7 +2,8 @@
 use Rattle.std.specs.Prelude.{ℕ, ◌+◌, List, [], ◌∷◌, length, Option, Some, None, Result, Ok, Err}
 use Rattle.std.specs.Option.{option_or}
 use Rattle.columns.specs.declared.fault.ColumnFault.{ColumnFault}
-use Rattle.columns.specs.declared.fault.ColumnFault.TheVariants.{NoHeader, SameName, BadNumber, RowLength, TooManyColumns, Read, NoMemory}
+use Rattle.columns.specs.declared.fault.ColumnFault.TheVariants.{NoHeader, SameName, BadNumber, RowLength}
+use Rattle.columns.specs.declared.fault.ColumnFault.TheVariants.{TooManyColumns, Read, NoMemory}
 use Rattle.columns.specs.TableForms.{AbstractForm, table_by}
 use Rattle.tables.specs.Table.{NamedColumn}
 use Rattle.report_merge.specs.Cuts.{Row}
@@ -33,4 +34,6 @@ refusal_of form records = refusal_in (table_by form records)
 -- and each part has the header
 abbrev pub first_refusal : AbstractForm → ℕ → Row → List (List Row) → Option ColumnFault
 first_refusal form before header [] = None
-first_refusal form before header (rows ∷ tables) = option_or (moved_refusal before (refusal_of form (header ∷ rows))) (first_refusal form (before + length rows) header tables)
+first_refusal form before header (rows ∷ tables) =
+    option_or (moved_refusal before (refusal_of form (header ∷ rows)))
+    (first_refusal form (before + length rows) header tables)

@@ -8,6 +8,8 @@
 //! What it promises to its users is the contract of `merge`: if the answers of each part are what the jobs mean over
 //! its rows, the merged answers are what they mean over the whole table.
 //! Not promised: that a part's answers are of its rows, and that the parts are handed in in their order.
+//!
+//! Tested: runs of the programs in `tests`.
 #![tactic(auto)]
 
 mod fault;

@@ -7,6 +7,9 @@
 //! `Settings::over`: how the column file is read alone changes; `Settings::adaptive`: whether shorter pieces may be
 //! cut.
 //! Begin with `settings.rt` and `specs/Settings.antt`.
+//!
+//! Tested: `driven.rt`, `leaves.rt`, `list_runs.rt`, `lists.rt`, `runs.rt` of `test_engine`; `decimals.rt`, `pieces.rt`
+//! of `test_low`; runs of the programs in `tests`.
 #![tactic(auto)]
 
 mod settings;

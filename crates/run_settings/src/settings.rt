@@ -4,7 +4,7 @@ ghost use Rattle.run_settings.specs.Settings.{AreWithin};
 ghost use Rattle.run_settings.specs.TableSettings.{integers};
 ghost use Rattle.std.specs.Prelude.{◌≡◌, ◌≤◌, IfSome, IsSome, None, false, true};
 
-use super::table::TableSetting;
+use crate::table::TableSetting;
 
 /// The form of a report.
 #[derive(Clone, Copy, Debug, PartialEq, Eq)]

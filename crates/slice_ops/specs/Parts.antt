@@ -6,7 +6,8 @@ use Rattle.trace.specs.declared.item.End.TheVariants as end
 use Rattle.trace.specs.Stops.{stop_at}
 use Rattle.trace.specs.Trace.{Trace}
 use Rattle.slice_ops.specs.declared.slice_part.SlicePart.{SlicePart}
-use Rattle.slice_ops.specs.Slices.{AbstractSlice, limit, skip, take_while, drop_while, slice_of, limited, taken, front_ends}
+use Rattle.slice_ops.specs.Slices.{AbstractSlice, limit, skip, take_while, drop_while, slice_of, limited, taken}
+use Rattle.slice_ops.specs.Slices.{front_ends}
 
 -- what is kept of a piece: what stands left of it doesn't matter to `limit` and `takeWhile`
 abbrev pub kept_of : AbstractSlice → ℕ → Numbers → Trace → Trace
@@ -31,7 +32,8 @@ pub record StandsFor (d : AbstractSlice) (n : ℕ) (env : Numbers) (p : SlicePar
 
 -- what a chunk becomes to which the right piece was appended, and whether the joined piece stops
 abbrev pub IsJoined : AbstractSlice → Trace → Bool → Trace → Bool → Type 0
-IsJoined (limit k) t right_stops kept joined_stops = (kept ≡ limited k t) × (joined_stops ≡ not (nat_lt (length t.items) k))
+IsJoined (limit k) t right_stops kept joined_stops =
+    (kept ≡ limited k t) × (joined_stops ≡ not (nat_lt (length t.items) k))
 IsJoined (skip k) t right_stops kept joined_stops = (kept ≡ t) × (joined_stops ≡ right_stops)
 IsJoined (take_while p) t right_stops kept joined_stops = (kept ≡ t) × (joined_stops ≡ right_stops)
 IsJoined (drop_while p) t right_stops kept joined_stops = (kept ≡ t) × (joined_stops ≡ right_stops)

@@ -8,6 +8,8 @@
 //! it in place and take no memory.
 //! Not promised: that a piece is walked no further than needed.
 //! Java: `limit`, `skip`, `takeWhile`, `dropWhile` of `LongStream` (Java SE 17, `java.util.stream`).
+//!
+//! Tested: `calls.rt` of `test_low`; runs of the programs in `tests`.
 #![tactic(auto)]
 
 mod rest;

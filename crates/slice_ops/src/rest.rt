@@ -9,8 +9,8 @@ ghost use Rattle.trace.specs.declared.item.End.TheVariants as end;
 ghost use Rattle.slice_ops.specs.Rests.{IsTested, before_stop, rest_of, stop_after};
 ghost use Rattle.slice_ops.specs.Slices.{dropped, front_ends, slice_of, sliced, taken};
 
-use super::shorten::FrontTest;
-use super::slice_part::Slice;
+use crate::shorten::FrontTest;
+use crate::slice_part::Slice;
 use lambda_values::{BoolExpr, Env};
 use trace::{End, EndTest, SourceItems};
 

@@ -6,7 +6,7 @@ ghost use Rattle.trace.specs.Trace.{Trace, append};
 ghost use Rattle.slice_ops.specs.Parts.{IsJoined, StandsFor, is_settled};
 ghost use Rattle.slice_ops.specs.Slices.{AbstractSlice, slice_of, sliced};
 
-use super::shorten::{drop_while, limit, skip, take_while};
+use crate::shorten::{drop_while, limit, skip, take_while};
 use lambda_values::{BoolExpr, Env};
 use trace::{Chunk, End};
 

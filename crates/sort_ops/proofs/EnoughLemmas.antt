@@ -1,5 +1,6 @@
 -- Enough firsts: after them nothing matters.
-use Rattle.std.proofs.Common.{◌≡◌, ℕ, ◌+◌, ◌<◌, ◌≤◌, min, ℤ, Bool, true, false, ◌||◌, nat_lt, int_eq, List, [], ◌∷◌, ◌++◌, length, length-append, take, Option, Some, None, refl, sym, ap, ◌∙◌, arith}
+use Rattle.std.proofs.Common.{◌≡◌, ℕ, ◌+◌, ◌<◌, ◌≤◌, min, ℤ, Bool, true, false, ◌||◌, nat_lt, int_eq, List, [], ◌∷◌}
+use Rattle.std.proofs.Common.{◌++◌, length, length-append, take, Option, Some, None, refl, sym, ap, ◌∙◌, arith}
 use Rattle.std.proofs.Math.Nat.{min-eq_left, min-eq_right}
 use Rattle.std.proofs.lemmas.Bool.{lt-ltb, ltb-false, ltb-true}
 use Rattle.std.proofs.lemmas.List.{length-map, length-take, take-append-le, take-take}
@@ -67,7 +68,8 @@ more_enough (Some n) xs ys h enough = omega (arith, h, enough)
 pub enough_after : (m : Option ℕ) (xs ys : List Item) → AreEnough m (firsts [] ys) → AreEnough m (firsts [] (xs ++ ys))
 enough_after m xs ys = more_enough m (firsts [] ys) (firsts [] (xs ++ ys)) (no_fewer_after xs ys)
 
-pub enough_before : (m : Option ℕ) (a b : Trace) → AreEnough m (firsts [] a.items) → AreEnough m (firsts [] (append a b).items)
+pub enough_before : (m : Option ℕ) (a b : Trace) → AreEnough m (firsts [] a.items)
+    → AreEnough m (firsts [] (append a b).items)
 enough_before m a b = by a.items a.ending
   where
     by : (xs : List Item) (e : End) → AreEnough m (firsts [] xs) → AreEnough m (firsts [] (then_on xs e b).items)
@@ -75,7 +77,8 @@ enough_before m a b = by a.items a.ending
     by xs (end.Fault f) enough = enough
 
 -- this number of items, where there are no fewer
-cut_off : (n : ℕ) (xs : List Item) (e : End) → n ≤ length xs → done_after (Some n) (trace xs e) ≡ trace (take n xs) end.Done
+cut_off : (n : ℕ) (xs : List Item) (e : End) → n ≤ length xs
+    → done_after (Some n) (trace xs e) ≡ trace (take n xs) end.Done
 cut_off n xs e enough = by_bool (nat_lt (length xs) n)
     (λ k. let l = ltb-true (length xs) n k in absurd (omega (arith, l, enough)))
     (λ k. other (nat_lt (length xs) n) (trace xs e) (trace (take n xs) end.Done) k)
@@ -86,7 +89,8 @@ uncut n t h = chosen (nat_lt (length t.items) n) t (trace (take n t.items) end.D
 
 no_longer : (m : ℕ) (t : Trace) → length (done_after (Some m) t).items ≤ m
 no_longer m t = by_bool (nat_lt (length t.items) m)
-    (λ k. let l = ltb-true (length t.items) m k in let a = ap (λ (u : Trace). length u.items) (uncut m t l) in omega (arith, a, l))
+    (λ k. let l = ltb-true (length t.items) m k in let a = ap (λ (u : Trace). length u.items) (uncut m t l) in
+    omega (arith, a, l))
     (λ k. let l = ltb-false (length t.items) m k in
     let a = ap (λ (u : Trace). length u.items) (cut_off m t.items t.ending l) in
     let b = length-take m t.items in omega (arith, a, b))
@@ -95,30 +99,37 @@ no_longer m t = by_bool (nat_lt (length t.items) m)
 pub done_twice : (m n : ℕ) (t : Trace) → done_after (Some (min m n)) t ≡ done_after (Some n) (done_after (Some m) t)
 done_twice m n t = by_bool (nat_lt m n)
     (λ h. let less = ltb-true m n h in let l = no_longer m t in
-    ap (λ k. done_after (Some k) t) (min-eq_left (omega (arith, less))) ∙ sym (uncut n (done_after (Some m) t) (omega (arith, less, l))))
+    ap (λ k. done_after (Some k) t) (min-eq_left (omega (arith, less)))
+    ∙ sym (uncut n (done_after (Some m) t) (omega (arith, less, l))))
     (λ h. let most = ltb-false m n h in
     ap (λ k. done_after (Some k) t) (min-eq_right most) ∙ by_bool (nat_lt (length t.items) m)
     (λ k. ap (done_after (Some n)) (sym (uncut m t (ltb-true (length t.items) m k))))
     (λ k. let l = ltb-false (length t.items) m k in
     let taken : List Item = take m t.items in
     let long = length-take m t.items in
-    cut_off n t.items t.ending (omega (arith, most, l)) ∙ ap (λ (xs : List Item). trace xs end.Done) (sym (take-take n m t.items most))
-    ∙ sym (ap (done_after (Some n)) (cut_off m t.items t.ending l) ∙ cut_off n taken end.Done (omega (arith, most, l, long)))))
+    cut_off n t.items t.ending (omega (arith, most, l))
+    ∙ ap (λ (xs : List Item). trace xs end.Done) (sym (take-take n m t.items most))
+    ∙ sym (ap (done_after (Some n)) (cut_off m t.items t.ending l)
+    ∙ cut_off n taken end.Done (omega (arith, most, l, long)))))
 
 front_taken : (n : ℕ) (xs ys : List Item) → n ≤ length xs → take n (xs ++ ys) ≡ take n xs
 front_taken n xs ys h = take-append-le n xs ys h
 
 -- what comes after enough firsts changes nothing
-pub enough_stays : (m : Option ℕ) (a b : Trace) → AreEnough m (firsts [] a.items) → done_after m (distinct_walk [] (append a b)) ≡ done_after m (distinct_walk [] a)
+pub enough_stays : (m : Option ℕ) (a b : Trace) → AreEnough m (firsts [] a.items)
+    → done_after m (distinct_walk [] (append a b)) ≡ done_after m (distinct_walk [] a)
 enough_stays None a b enough = absurd enough
 enough_stays (Some n) a b enough = by a.items a.ending enough
   where
-    by : (xs : List Item) (e : End) → n ≤ length (firsts [] xs) → done_after (Some n) (distinct_walk [] (then_on xs e b)) ≡ done_after (Some n) (trace (firsts [] xs) e)
+    by : (xs : List Item) (e : End) → n ≤ length (firsts [] xs)
+        → done_after (Some n) (distinct_walk [] (then_on xs e b)) ≡ done_after (Some n) (trace (firsts [] xs) e)
     by xs end.Done enough =
         let l : List Item = firsts [] xs in
         let more : List Item = firsts (values_in l ++ []) b.items in
         let joined = firsts_joined [] xs b.items in
         let long = no_fewer_before xs b.items in
         cut_off n (firsts [] (xs ++ b.items)) b.ending (omega (arith, long, enough))
-        ∙ ap (λ (ys : List Item). trace (take n ys) end.Done) joined ∙ ap (λ (ys : List Item). trace ys end.Done) (front_taken n l more enough) ∙ sym (cut_off n l end.Done enough)
+        ∙ ap (λ (ys : List Item). trace (take n ys) end.Done) joined
+        ∙ ap (λ (ys : List Item). trace ys end.Done) (front_taken n l more enough)
+        ∙ sym (cut_off n l end.Done enough)
     by xs (end.Fault f) enough = refl

@@ -7,7 +7,8 @@ use Rattle.trace.specs.declared.item.End.TheVariants as end
 use Rattle.trace.specs.Trace.{Trace, trace, nothing, append, then_on}
 use Rattle.trace.proofs.JoinLemmas.{append_faulted, append_grouped, append_nothing}
 use Rattle.sort_ops.specs.Firsts.{distinct_walk, firsts}
-use Rattle.sort_ops.specs.Parts.{AbstractFirsts, AbstractKept, AreEnough, AreFirsts, firsts_merged, firsts_of, done_after, trace_of}
+use Rattle.sort_ops.specs.Parts.{AbstractFirsts, AbstractKept, AreEnough, AreFirsts, firsts_merged, firsts_of}
+use Rattle.sort_ops.specs.Parts.{done_after, trace_of}
 use Rattle.sort_ops.proofs.FirstLemmas.{firsts_side, firsts_twice}
 use Rattle.sort_ops.proofs.EnoughLemmas.{enough_after, enough_before, enough_stays}
 
@@ -18,38 +19,55 @@ whole_of m p t are open_yet =
     are.front.3 ∙ ap firsts_of (sym (are.front.2 ∙ ap (append a) (are.front.4 open_yet) ∙ append_nothing a))
 
 -- the items of a part have different values
-pub own_items : (m : Option ℕ) (p : AbstractFirsts) (t : Trace) → AreFirsts m p t → firsts [] p.kept.items ≡ p.kept.items
+pub own_items : (m : Option ℕ) (p : AbstractFirsts) (t : Trace) → AreFirsts m p t
+    → firsts [] p.kept.items ≡ p.kept.items
 own_items m p t are =
     let is : p.kept.items ≡ firsts [] are.front.0.items = ap (λ (k : AbstractKept). k.items) are.front.3 in
     ap (firsts []) is ∙ firsts_twice [] [] are.front.0.items ∙ sym is
 
 -- a part that isn't full goes on with a walk, and keeps it whole
-pub goes_on : (m : Option ℕ) (p new : AbstractFirsts) (t u : Trace) → p.full ≡ false → new.most ≡ p.most → new.kept ≡ firsts_merged p.kept (firsts_of u)
+pub goes_on : (m : Option ℕ) (p new : AbstractFirsts) (t u : Trace) → p.full ≡ false → new.most ≡ p.most
+    → new.kept ≡ firsts_merged p.kept (firsts_of u)
     → (new.full ≡ true → AreEnough p.most new.kept.items) → AreFirsts m p t → AreFirsts m new (append t u)
 goes_on m p new t u open_yet same is enough are = record {
   most = same ∙ are.most;
   enough = λ full. subst (λ (k : Option ℕ). AreEnough k new.kept.items) are.most (enough full);
-  front = (append t u, nothing, sym (append_nothing (append t u)), is ∙ ap (λ (k : AbstractKept). firsts_merged k (firsts_of u)) (whole_of m p t are open_yet) ∙ firsts_side t u, λ h. refl);
+  front = (
+    append t u,
+    nothing,
+    sym (append_nothing (append t u)),
+    is ∙ ap (λ (k : AbstractKept). firsts_merged k (firsts_of u)) (whole_of m p t are open_yet) ∙ firsts_side t u,
+    λ h. refl,
+  );
 }
 
 -- a full part stays as it is
-pub stays_full : (m : Option ℕ) (p : AbstractFirsts) (t u : Trace) → p.full ≡ true → AreFirsts m p t → AreFirsts m p (append t u)
+pub stays_full : (m : Option ℕ) (p : AbstractFirsts) (t u : Trace) → p.full ≡ true → AreFirsts m p t
+    → AreFirsts m p (append t u)
 stays_full m p t u full are =
     let a = are.front.0 in
     let b = are.front.1 in
     record {
       most = are.most;
       enough = are.enough;
-      front = (a, append b u, ap (λ (w : Trace). append w u) are.front.2 ∙ append_grouped a b u, are.front.3, λ h. absurd (let z : true ≡ false = sym full ∙ h in cc));
+      front = (
+        a,
+        append b u,
+        ap (λ (w : Trace). append w u) are.front.2 ∙ append_grouped a b u,
+        are.front.3,
+        λ h. absurd (let z : true ≡ false = sym full ∙ h in cc),
+      );
     }
 
 -- and so does one that a fault has ended
-pub stays_faulted : (m : Option ℕ) (p : AbstractFirsts) (t u : Trace) (f : Fault) → p.kept.ending ≡ end.Fault f → AreFirsts m p t → AreFirsts m p (append t u)
+pub stays_faulted : (m : Option ℕ) (p : AbstractFirsts) (t u : Trace) (f : Fault) → p.kept.ending ≡ end.Fault f
+    → AreFirsts m p t → AreFirsts m p (append t u)
 stays_faulted m p t u f is are =
     let a = are.front.0 in
     let b = are.front.1 in
     let faulted : a.ending ≡ end.Fault f = sym (ap (λ (k : AbstractKept). k.ending) are.front.3) ∙ is in
-    let same : append t u ≡ a = ap (λ (w : Trace). append w u) are.front.2 ∙ append_grouped a b u ∙ append_faulted a (append b u) f faulted in
+    let same : append t u ≡ a = ap (λ (w : Trace). append w u) are.front.2 ∙ append_grouped a b u
+    ∙ append_faulted a (append b u) f faulted in
     record {
       most = are.most;
       enough = are.enough;
@@ -57,20 +75,27 @@ stays_faulted m p t u f is are =
     }
 
 -- two parts side by side, of which the left one isn't full
-pub side_by_side : (m : Option ℕ) (p q new : AbstractFirsts) (t u : Trace) → p.full ≡ false → p.kept.ending ≡ end.Done → new.most ≡ p.most → new.kept ≡ firsts_merged p.kept q.kept
-    → (q.full ≡ true → new.full ≡ true) → (new.full ≡ true → q.full ≡ false → AreEnough p.most new.kept.items) → AreFirsts m p t → AreFirsts m q u → AreFirsts m new (append t u)
+pub side_by_side : (m : Option ℕ) (p q new : AbstractFirsts) (t u : Trace) → p.full ≡ false → p.kept.ending ≡ end.Done
+    → new.most ≡ p.most → new.kept ≡ firsts_merged p.kept q.kept
+    → (q.full ≡ true → new.full ≡ true) → (new.full ≡ true → q.full ≡ false → AreEnough p.most new.kept.items)
+    → AreFirsts m p t → AreFirsts m q u → AreFirsts m new (append t u)
 side_by_side m p q new t u open_yet done same is keeps enough are these =
     let a = these.front.0 in
     let b = these.front.1 in
     let joined : append t u ≡ append (append t a) b = ap (append t) these.front.2 ∙ sym (append_grouped t a b) in
-    let gives : new.kept ≡ firsts_of (append t a) = is ∙ (λ i. firsts_merged (whole_of m p t are open_yet i) (these.front.3 i)) ∙ firsts_side t a in
+    let gives : new.kept ≡ firsts_of (append t a) =
+    is ∙ (λ i. firsts_merged (whole_of m p t are open_yet i) (these.front.3 i)) ∙ firsts_side t a in
     let items : new.kept.items ≡ firsts [] (append t a).items = ap (λ (k : AbstractKept). k.items) gives in
-    let running : t.ending ≡ end.Done = sym (ap (λ (k : AbstractKept). k.ending) (whole_of m p t are open_yet)) ∙ done in
+    let running : t.ending ≡ end.Done = sym (ap (λ (k : AbstractKept). k.ending) (whole_of m p t are open_yet))
+    ∙ done in
     let by_right : q.full ≡ true → AreEnough m new.kept.items = λ h.
-    subst (AreEnough m) (sym (items ∙ after t a running)) (enough_after m t.items a.items (subst (AreEnough m) (ap (λ (k : AbstractKept). k.items) these.front.3) (these.enough h))) in
+    subst (AreEnough m) (sym (items ∙ after t a running))
+    (enough_after m t.items a.items (subst (AreEnough m) (ap (λ (k : AbstractKept). k.items) these.front.3)
+    (these.enough h))) in
     record {
       most = same ∙ are.most;
-      enough = λ full. by q.full refl full by_right (λ h. subst (λ (k : Option ℕ). AreEnough k new.kept.items) are.most (enough full h));
+      enough = λ full. by q.full refl full by_right
+          (λ h. subst (λ (k : Option ℕ). AreEnough k new.kept.items) are.most (enough full h));
       front = (append t a, b, joined, gives, λ h. these.front.4 (not_full q.full refl h keeps));
     }
   where
@@ -86,7 +111,8 @@ side_by_side m p q new t u open_yet done same is keeps enough are these =
     not_full false s h keeps = refl
 
 -- what a part gives
-pub gives_first : (m : Option ℕ) (p : AbstractFirsts) (t : Trace) → AreFirsts m p t → done_after m (trace_of p.kept) ≡ done_after m (distinct_walk [] t)
+pub gives_first : (m : Option ℕ) (p : AbstractFirsts) (t : Trace) → AreFirsts m p t
+    → done_after m (trace_of p.kept) ≡ done_after m (distinct_walk [] t)
 gives_first m p t are = by p.full refl
   where
     a : Trace
@@ -99,7 +125,8 @@ gives_first m p t are = by p.full refl
     by false h = ap (λ (k : AbstractKept). done_after m (trace_of k)) (whole_of m p t are h)
     by true h =
         of_front ∙ sym (ap (λ (w : Trace). done_after m (distinct_walk [] w)) are.front.2
-        ∙ enough_stays m a are.front.1 (subst (AreEnough m) (ap (λ (k : AbstractKept). k.items) are.front.3) (are.enough h)))
+        ∙ enough_stays m a are.front.1 (subst (AreEnough m) (ap (λ (k : AbstractKept). k.items) are.front.3)
+        (are.enough h)))
 
 -- a walk with enough firsts settles what is given of any walk that it is a part of
 pub full_settles : (m : Option ℕ) (p : AbstractFirsts) (t : Trace) → p.full ≡ true → AreFirsts m p t → (x y : Trace)
@@ -108,14 +135,17 @@ full_settles m p t full are x y = by x.items x.ending
   where
     enough : AreEnough m (firsts [] t.items)
     enough = subst (λ (w : Trace). AreEnough m (firsts [] w.items)) (sym are.front.2)
-        (enough_before m are.front.0 are.front.1 (subst (AreEnough m) (ap (λ (k : AbstractKept). k.items) are.front.3) (are.enough full)))
+        (enough_before m are.front.0 are.front.1
+        (subst (AreEnough m) (ap (λ (k : AbstractKept). k.items) are.front.3) (are.enough full)))
 
-    by : (xs : List Item) (e : End) → done_after m (distinct_walk [] (append (then_on xs e t) y)) ≡ done_after m (distinct_walk [] (then_on xs e t))
+    by : (xs : List Item) (e : End) → done_after m (distinct_walk [] (append (then_on xs e t) y))
+        ≡ done_after m (distinct_walk [] (then_on xs e t))
     by xs end.Done = enough_stays m (trace (xs ++ t.items) t.ending) y (enough_after m xs t.items enough)
     by xs (end.Fault f) = refl
 
 -- the part of no item
-pub none_kept : (m : Option ℕ) (p : AbstractFirsts) → p.most ≡ m → p.kept ≡ firsts_of nothing → p.full ≡ false → AreFirsts m p nothing
+pub none_kept : (m : Option ℕ) (p : AbstractFirsts) → p.most ≡ m → p.kept ≡ firsts_of nothing → p.full ≡ false
+    → AreFirsts m p nothing
 none_kept m p most is empty = record {
   most = most;
   enough = λ h. absurd (let z : true ≡ false = sym h ∙ empty in cc);
@@ -123,7 +153,8 @@ none_kept m p most is empty = record {
 }
 
 -- a part that ends in a fault is of a walk that ends so
-pub faulted_whole : (m : Option ℕ) (p : AbstractFirsts) (t : Trace) (f : Fault) → p.kept.ending ≡ end.Fault f → AreFirsts m p t → t.ending ≡ end.Fault f
+pub faulted_whole : (m : Option ℕ) (p : AbstractFirsts) (t : Trace) (f : Fault) → p.kept.ending ≡ end.Fault f
+    → AreFirsts m p t → t.ending ≡ end.Fault f
 faulted_whole m p t f is are =
     let a = are.front.0 in
     let faulted : a.ending ≡ end.Fault f = sym (ap (λ (k : AbstractKept). k.ending) are.front.3) ∙ is in

@@ -1,5 +1,7 @@
 -- Items whose value came before, and sets that find them.
-use Rattle.std.proofs.Common.{◌≡◌, ◌+◌, ◌≤◌, ◌<◌, ◌*◌, ◌/◌, ◌%◌, ◌^◌, ◌==◌, nat_lt, ℕ, ℤ, Bool, true, false, ◌||◌, cond, int_eq, unsigned_abs, List, [], ◌∷◌, ◌++◌, length, take, drop, get_or, set, Option, None, Some, refl, sym, ap, subst, ◌∙◌, arith, append_assoc}
+use Rattle.std.proofs.Common.{◌≡◌, ◌+◌, ◌≤◌, ◌<◌, ◌*◌, ◌/◌, ◌%◌, ◌^◌, ◌==◌, nat_lt, ℕ, ℤ, Bool, true, false, ◌||◌, cond}
+use Rattle.std.proofs.Common.{int_eq, unsigned_abs, List, [], ◌∷◌, ◌++◌, length, take, drop, get_or, set, Option, None}
+use Rattle.std.proofs.Common.{Some, zero, suc, refl, sym, ap, subst, ◌∙◌, arith, append_assoc}
 use Rattle.std.proofs.lemmas.List.{drop_more, drop-set-lt, take_more_set}
 use Rattle.std.proofs.lemmas.Grind.{common_steps}
 use Rattle.std.proofs.lemmas.Bool.{ltb-false, ltb-true}
@@ -24,21 +26,33 @@ or_open : (a b : Bool) → (a || b) ≡ false → (a ≡ false) × (b ≡ false)
 or_open true b h = cc
 or_open false b h = (refl, h)
 
+or_left : (a b : Bool) → a ≡ true → (a || b) ≡ true
+or_left true b h = refl
+or_left false b h = cc
+
+or_right : (a b : Bool) → b ≡ true → (a || b) ≡ true
+or_right true b h = refl
+or_right false b h = h
+
 swapped : (a b : ℤ) → int_eq a b ≡ int_eq b a
 swapped a b = by_bool (int_eq a b)
     (λ h. h ∙ sym (ap (int_eq b) ((signed_Decides a b).0 h) ∙ (signed_Decides b b).1 refl))
     (λ h. by_bool (int_eq b a)
-    (λ k. absurd (let z : int_eq a b ≡ true = ap (int_eq a) ((signed_Decides b a).0 k) ∙ (signed_Decides a a).1 refl in cc))
+    (λ k. absurd (let z : int_eq a b ≡ true = ap (int_eq a) ((signed_Decides b a).0 k) ∙ (signed_Decides a a).1 refl in
+    cc))
     (λ k. h ∙ sym k))
 
-last_among : (v : ℤ) (xs : List Item) (x : Item) → is_among v (values_in (xs ++ x ∷ [])) ≡ (int_eq x.value v || is_among v (values_in xs))
+last_among : (v : ℤ) (xs : List Item) (x : Item)
+    → is_among v (values_in (xs ++ x ∷ [])) ≡ (int_eq x.value v || is_among v (values_in xs))
 last_among v [] x = ap (λ b. b || false) (swapped v x.value)
-last_among v (y ∷ ys) x = ap (λ b. int_eq v y.value || b) (last_among v ys x) ∙ or_moved (int_eq v y.value) (int_eq x.value v) (is_among v (values_in ys))
+last_among v (y ∷ ys) x = ap (λ b. int_eq v y.value || b) (last_among v ys x)
+    ∙ or_moved (int_eq v y.value) (int_eq x.value v) (is_among v (values_in ys))
 
 -- ---- sets
 
 -- an item that isn't looked up
-pub outside : (l : Lookup) (xs : List Item) (x : Item) → is_in l.class x.value ≡ false → Knows l xs → Knows l (xs ++ x ∷ [])
+pub outside : (l : Lookup) (xs : List Item) (x : Item) → is_in l.class x.value ≡ false → Knows l xs
+    → Knows l (xs ++ x ∷ [])
 outside l xs x out knows going v inside =
     let apart : int_eq x.value v ≡ false = by_bool (int_eq x.value v)
     (λ k. let z : true ≡ false = sym inside ∙ ap (is_in l.class) (sym (equal_is x.value v k)) ∙ out in cc)
@@ -51,10 +65,12 @@ or_is false b = refl
 
 -- a value that was put into the set
 pub put_in : (l m : Lookup) (xs : List Item) (x : Item) → m.class ≡ l.class → m.refused ≡ l.refused
-    → ((v : ℤ) → contains int_eq m.seen v ≡ cond (int_eq x.value v) true (contains int_eq l.seen v)) → Knows l xs → Knows m (xs ++ x ∷ [])
+    → ((v : ℤ) → contains int_eq m.seen v ≡ cond (int_eq x.value v) true (contains int_eq l.seen v)) → Knows l xs
+    → Knows m (xs ++ x ∷ [])
 put_in l m xs x class refused has knows going v inside =
     has v ∙ or_is (int_eq x.value v) (contains int_eq l.seen v)
-    ∙ ap (λ b. int_eq x.value v || b) (knows (sym refused ∙ going) v (ap (λ c. is_in c v) (sym class) ∙ inside)) ∙ sym (last_among v xs x)
+    ∙ ap (λ b. int_eq x.value v || b) (knows (sym refused ∙ going) v (ap (λ c. is_in c v) (sym class) ∙ inside))
+    ∙ sym (last_among v xs x)
 
 -- ---- items of different values
 
@@ -62,35 +78,54 @@ once_later : (c : Option ℕ) (xs ys : List Item) → AreOnce c (xs ++ ys) → A
 once_later c [] ys once = once
 once_later c (x ∷ xs) ys once = once_later c xs ys once.1
 
-once_before : (c : Option ℕ) (xs : List Item) (x : Item) → AreOnce c xs → (is_in c x.value ≡ true → is_among x.value (values_in xs) ≡ false) → AreOnce c (xs ++ x ∷ [])
+once_before : (c : Option ℕ) (xs : List Item) (x : Item) → AreOnce c xs
+    → (is_in c x.value ≡ true → is_among x.value (values_in xs) ≡ false) → AreOnce c (xs ++ x ∷ [])
 once_before c [] x once new = (λ h. refl, tt)
 once_before c (y ∷ ys) x once new = (
   λ inside. by_bool (int_eq x.value y.value)
       (λ k. absurd (let same : x.value ≡ y.value = equal_is x.value y.value k in
-      let none : (int_eq x.value y.value || is_among x.value (values_in ys)) ≡ false = new (ap (is_in c) same ∙ inside) in
+      let none : (int_eq x.value y.value || is_among x.value (values_in ys)) ≡ false =
+      new (ap (is_in c) same ∙ inside) in
       let z : true ≡ false = sym k ∙ (or_open (int_eq x.value y.value) (is_among x.value (values_in ys)) none).0 in cc))
       (λ k. last_among y.value ys x ∙ ap (λ b. b || is_among y.value (values_in ys)) k ∙ once.0 inside),
-  once_before c ys x once.1 (λ inside. (or_open (int_eq x.value y.value) (is_among x.value (values_in ys)) (new inside)).1),
+  once_before c ys x once.1 (λ inside. (or_open (int_eq x.value y.value) (is_among x.value (values_in ys))
+      (new inside)).1),
 )
 
-pub one_once : (c : Option ℕ) (xs : List Item) (x : Item) → AreOnce c xs → (is_in c x.value ≡ true → is_among x.value (values_in xs) ≡ false) → AreOnce c (xs ++ x ∷ [])
+pub one_once : (c : Option ℕ) (xs : List Item) (x : Item) → AreOnce c xs
+    → (is_in c x.value ≡ true → is_among x.value (values_in xs) ≡ false) → AreOnce c (xs ++ x ∷ [])
 one_once = once_before
 
+-- a value that an item at a position has
+pub found_among : (xs : List Item) (i : ℕ) (x : Item) (v : ℤ) → i < length xs → x ≡ get_or xs i x
+    → int_eq x.value v ≡ true
+    → is_among v (values_in xs) ≡ true
+found_among [] i x v low is same = absurd (omega arith)
+found_among (y ∷ ys) zero x v low is same =
+    or_left (int_eq v y.value) (is_among v (values_in ys))
+    (swapped v y.value ∙ ap (λ (z : Item). int_eq z.value v) (sym is) ∙ same)
+found_among (y ∷ ys) (suc i) x v low is same =
+    or_right (int_eq v y.value) (is_among v (values_in ys)) (found_among ys i x v (omega arith) is same)
+
 -- fewer items
-fewer_among : (v : ℤ) (xs : List Item) (x : Item) (ys : List Item) → is_among v (values_in (xs ++ x ∷ ys)) ≡ false → is_among v (values_in (xs ++ ys)) ≡ false
+fewer_among : (v : ℤ) (xs : List Item) (x : Item) (ys : List Item) → is_among v (values_in (xs ++ x ∷ ys)) ≡ false
+    → is_among v (values_in (xs ++ ys)) ≡ false
 fewer_among v [] x ys h = (or_open (int_eq v x.value) (is_among v (values_in ys)) h).1
 fewer_among v (z ∷ zs) x ys h =
     let parts = or_open (int_eq v z.value) (is_among v (values_in (zs ++ x ∷ ys))) h in
     ap (λ b. b || is_among v (values_in (zs ++ ys))) parts.0 ∙ fewer_among v zs x ys parts.1
 
-pub fewer_once : (c : Option ℕ) (xs : List Item) (x : Item) (ys : List Item) → AreOnce c (xs ++ x ∷ ys) → AreOnce c (xs ++ ys)
+pub fewer_once : (c : Option ℕ) (xs : List Item) (x : Item) (ys : List Item) → AreOnce c (xs ++ x ∷ ys)
+    → AreOnce c (xs ++ ys)
 fewer_once c [] x ys once = once.1
 fewer_once c (z ∷ zs) x ys once = (λ inside. fewer_among z.value zs x ys (once.0 inside), fewer_once c zs x ys once.1)
 
 -- an item whose value came before changes no firsts
-pub again : (xs : List Item) (x : Item) (ys : List Item) → is_among x.value (values_in xs) ≡ true → firsts [] (xs ++ ys) ≡ firsts [] (xs ++ x ∷ ys)
+pub again : (xs : List Item) (x : Item) (ys : List Item) → is_among x.value (values_in xs) ≡ true
+    → firsts [] (xs ++ ys) ≡ firsts [] (xs ++ x ∷ ys)
 again xs x ys h =
-    sym (firsts_first xs ys) ∙ ap (λ (l : List Item). firsts [] (l ++ ys)) (sym (one_more xs x ∙ chosen (is_among x.value (values_in xs)) (firsts [] xs) (firsts [] xs ++ x ∷ []) h))
+    sym (firsts_first xs ys) ∙ ap (λ (l : List Item). firsts [] (l ++ ys))
+    (sym (one_more xs x ∙ chosen (is_among x.value (values_in xs)) (firsts [] xs) (firsts [] xs ++ x ∷ []) h))
     ∙ firsts_first (xs ++ x ∷ []) ys ∙ ap (firsts []) (append_assoc xs (x ∷ []) ys)
 
 -- ---- items of different values are their own firsts
@@ -101,23 +136,17 @@ NoneAmong s xs = (v : ℤ) → is_among v (values_in xs) ≡ true → is_among v
 itself : (v : ℤ) → int_eq v v ≡ true
 itself v = (signed_Decides v v).1 refl
 
-or_left : (a b : Bool) → a ≡ true → (a || b) ≡ true
-or_left true b h = refl
-or_left false b h = cc
-
-or_right : (a b : Bool) → b ≡ true → (a || b) ≡ true
-or_right true b h = refl
-or_right false b h = h
-
 once_firsts : (s : List ℤ) (xs : List Item) → AreOnce None xs → NoneAmong s xs → firsts s xs ≡ xs
 once_firsts s [] once none = refl
 once_firsts s (x ∷ xs) once none =
-    first_new s x xs (none x.value (or_left (int_eq x.value x.value) (is_among x.value (values_in xs)) (itself x.value)))
+    first_new s x xs (none x.value (or_left (int_eq x.value x.value) (is_among x.value (values_in xs))
+    (itself x.value)))
     ∙ ap (λ (l : List Item). x ∷ l) (once_firsts (x.value ∷ s) xs once.1 later)
   where
     later : NoneAmong (x.value ∷ s) xs
     later v h = by_bool (int_eq v x.value)
-        (λ k. absurd (let z : true ≡ false = sym h ∙ ap (λ w. is_among w (values_in xs)) (equal_is v x.value k) ∙ once.0 refl in cc))
+        (λ k. absurd (let z : true ≡ false =
+        sym h ∙ ap (λ w. is_among w (values_in xs)) (equal_is v x.value k) ∙ once.0 refl in cc))
         (λ k. ap (λ b. b || is_among v s) k ∙ none v (or_right (int_eq v x.value) (is_among v (values_in xs)) h))
 
 pub own_firsts : (xs : List Item) → AreOnce None xs → firsts [] xs ≡ xs
@@ -131,21 +160,24 @@ same_nat n = grind (arith, common_steps)
 pub all_once : (xs : List Item) → ((c : ℕ) → c < 16 → AreOnce (Some c) xs) → AreOnce None xs
 all_once [] once = tt
 all_once (x ∷ xs) once = (
-  λ inside. (once (class_of x.value) (mod_below (unsigned_abs x.value * 11400714819323198485 % 2 ^ 64 / 2 ^ 32) 16 (omega arith))).0 (same_nat (class_of x.value)),
+  λ inside. (once (class_of x.value) (mod_below (unsigned_abs x.value * 11400714819323198485 % 2 ^ 64 / 2 ^ 32) 16
+      (omega arith))).0 (same_nat (class_of x.value)),
   all_once xs (λ c less. (once c less).1),
 )
 
 -- ---- a loop over items, of which some stay
 
 -- the item at a position, and what follows it
-pub next_item : (xs : List Item) (i : ℕ) (x : Item) → i + 1 ≤ length xs → x ≡ get_or xs i x → drop i xs ≡ x ∷ drop (i + 1) xs
+pub next_item : (xs : List Item) (i : ℕ) (x : Item) → i + 1 ≤ length xs → x ≡ get_or xs i x
+    → drop i xs ≡ x ∷ drop (i + 1) xs
 next_item xs i x within is = drop_more xs i x (omega (arith, within)) ∙ ap (λ (y : Item). y ∷ drop (i + 1) xs) (sym is)
 
 -- it stays: it is written at another position, which isn't later
 pub written : (xs : List Item) (k i : ℕ) (x : Item) → k ≤ i → i + 1 ≤ length xs → drop i xs ≡ x ∷ drop (i + 1) xs
     → take (k + 1) (set xs k x) ++ drop (i + 1) (set xs k x) ≡ take k xs ++ drop i xs
 written xs k i x before within is =
-    (λ j. take_more_set xs k x (omega (arith, before, within)) j ++ drop-set-lt (i + 1) xs k x (omega (arith, before)) j)
+    (λ j. take_more_set xs k x (omega (arith, before, within)) j
+    ++ drop-set-lt (i + 1) xs k x (omega (arith, before)) j)
     ∙ append_assoc (take k xs) (x ∷ []) (drop (i + 1) xs) ∙ ap (λ (l : List Item). take k xs ++ l) (sym is)
 
 -- ---- a loop over classes

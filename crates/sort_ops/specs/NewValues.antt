@@ -1,5 +1,6 @@
 -- Design: items, and sets that find those whose value came before.
-use Rattle.std.specs.Prelude.{◌≡◌, ◌*◌, ◌/◌, ◌%◌, ◌^◌, ◌==◌, ◌≤◌, ℕ, ℤ, Bool, true, false, unsigned_abs, List, [], ◌∷◌, length, take, Option, None, Some, ⊤}
+use Rattle.std.specs.Prelude.{◌≡◌, ◌*◌, ◌/◌, ◌%◌, ◌^◌, ◌==◌, ◌≤◌, ℕ, ℤ, Bool, true, false, unsigned_abs, List, [], ◌∷◌}
+use Rattle.std.specs.Prelude.{length, take, Option, None, Some, ⊤}
 use Rattle.std.specs.Ordering.{int_eq}
 use Rattle.std.specs.HashSet.{contains}
 use Rattle.lambda_values.specs.declared.item.Item.{Item}

@@ -1,6 +1,7 @@
 //! Sets of values, which find the items whose value came before.
 
 ghost use Rattle.std.specs.Prelude.{◌≡◌, ◌≤◌, [], ◌∷◌, ◌++◌, ℕ, List, Option, None, take, true, false, vec_len, OnOk};
+ghost use Rattle.std.specs.Ordering.{int_eq};
 ghost use Rattle.lambda_values.specs.declared.item.Item.{Item as meant_item};
 ghost use Rattle.sort_ops.specs.Firsts.{firsts, is_among};
 ghost use Rattle.sort_ops.specs.NewValues.{AreOnce, Knows, class_of, is_in};
@@ -16,11 +17,68 @@ const CLASSES: u64 = 16;
 /// It spreads the bits of values that are close together.
 const SPREAD: u64 = 11_400_714_819_323_198_485;
 
+/// How many items there are before positions are noted.
+const FEW: u32 = 64;
+
+/// Positions of items, at places that their values choose. Most items of few different values are found so, in a
+/// fraction of the time that a set takes. It is right with any positions, since the value there is compared.
+#[derive(Drop)]
+struct Noted {
+    /// Without elements while there are few items, or no memory for them.
+    positions: Vec<u32>,
+}
+
+impl Noted {
+    /// How many places there are.
+    const PLACES: usize = 4096;
+
+    /// The place of the positions of items with this value.
+    fn place(value: i64) -> usize {
+        (value.unsigned_abs().wrapping_mul(SPREAD) >> 52) as usize
+    }
+
+    /// Whether one of the items, that at the noted position, has this value.
+    fn finds(&self, items: &[Item], value: i64) -> bool
+        ensures { result ≡ true → is_among value (values_in items.now) ≡ true }
+    {
+        let Some(position) = self.positions.get(Noted::place(value)) else {
+            return false;
+        };
+        match items.get(*position as usize) {
+            Some(item) => has_value(*item, value),
+            None => false,
+        }
+    }
+
+    /// Notes the position of an item with this value.
+    fn note(&mut self, value: i64, position: usize) {
+        let Ok(position) = u32::try_from(position) else {
+            return;
+        };
+        if self.positions.is_empty()
+            && (position < FEW || self.positions.resize(Noted::PLACES, 0).is_err())
+        {
+            return;
+        }
+        if let Some(noted) = self.positions.get_mut(Noted::place(value)) {
+            *noted = position;
+        }
+    }
+}
+
+/// Whether an item has this value.
+fn has_value(item: Item, value: i64) -> bool
+    ensures { result ≡ int_eq item.value value }
+{
+    item.value == value
+}
+
 /// The values of items, or those of one class.
 #[derive(Drop)]
 pub(crate) struct Lookup {
     class: Option<u64>,
     seen: HashSet<i64>,
+    noted: Noted,
     /// Whether memory for a value was refused. After that no item is found.
     pub(crate) refused: bool,
 }
@@ -35,31 +93,52 @@ impl Lookup {
         Lookup {
             class,
             seen: HashSet::new(alloc),
+            noted: Noted {
+                positions: Vec::new(alloc),
+            },
             refused: false,
         }
     }
 
-    /// Whether an item stays: its value is new, or isn't looked up. Then its value is among those that came before.
-    fn stays(&mut self, item: Item) -> bool
+    /// Whether an item stays after those that stayed before: its value is new, or isn't looked up. Then its value is
+    /// among those that came before.
+    fn stays(&mut self, before: &[Item], item: Item) -> bool
         ensures class { self.new.class ≡ self.old.class }
         ensures going { self.new.refused ≡ false → self.old.refused ≡ false }
-        ensures new { result ≡ true → (xs : List meant_item) → Knows self.old xs → Knows self.new (xs ++ item ∷ []) }
-        ensures once { result ≡ true → self.new.refused ≡ false → (xs : List meant_item) → Knows self.old xs
-            → is_in self.old.class item.value ≡ true → is_among item.value (values_in xs) ≡ false }
-        ensures old { result ≡ false → (xs : List meant_item) → Knows self.old xs → Knows self.new xs }
-        ensures again { result ≡ false → (xs : List meant_item) → Knows self.old xs
-            → is_among item.value (values_in xs) ≡ true }
+        ensures new { result ≡ true → Knows self.old before.now → Knows self.new (before.now ++ item ∷ []) }
+        ensures once { result ≡ true → self.new.refused ≡ false → Knows self.old before.now
+            → is_in self.old.class item.value ≡ true → is_among item.value (values_in before.now) ≡ false }
+        ensures old { result ≡ false → Knows self.old before.now → Knows self.new before.now }
+        ensures again { result ≡ false → Knows self.old before.now
+            → is_among item.value (values_in before.now) ≡ true }
     {
         if self.refused || !is_in(self.class, item.value) {
             return true;
         }
+        if self.noted.finds(before, item.value) {
+            return false;
+        }
         match self.seen.insert(item.value) {
-            Ok(is_new) => is_new,
+            Ok(true) => {
+                self.noted.note(item.value, before.len());
+                true
+            }
+            Ok(false) => false,
             Err(_) => {
                 self.refused = true;
                 true
             }
         }
+    }
+
+    /// Makes room for this number of values, if there is memory for it: a set that grows with each of them puts them
+    /// into several tables, one after the other.
+    pub(crate) fn reserve(&mut self, count: usize)
+        ensures class { self.new.class ≡ self.old.class }
+        ensures going { self.new.refused ≡ self.old.refused }
+        ensures knows { (xs : List meant_item) → Knows self.old xs → Knows self.new xs }
+    {
+        let _ = self.seen.reserve(count);
     }
 }
 
@@ -95,7 +174,7 @@ pub(crate) fn take_out(items: &mut Vec<Item>, from: usize, lookup: &mut Lookup)
     let mut kept = from;
     for position in from..items.len() {
         let item = items[position];
-        if lookup.stays(item) {
+        if lookup.stays(&items[..kept], item) {
             items[kept] = item;
             kept += 1;
         }

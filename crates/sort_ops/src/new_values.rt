@@ -60,11 +60,11 @@ impl NewValues {
         self.items.len()
     }
 
-    /// Whether there are many new items. Without a set all items have to be looked up, so there have to be more new
-    /// ones than others.
-    pub(crate) fn has_many(&self) -> bool {
+    /// Whether it is time to look new items up: there are many, or these may be enough. Without a set all items have to
+    /// be looked up, so there have to be more new ones than others.
+    pub(crate) fn is_due(&self, may_be_enough: bool) -> bool {
         let new = self.items.len().saturating_sub(self.settled);
-        new >= LOOSE && (self.known > 0 || new >= self.settled)
+        (may_be_enough || new >= LOOSE) && (self.known > 0 || new >= self.settled)
     }
 
     /// Adds the items of a source. If the allocation fails, there are those of before.
@@ -136,6 +136,7 @@ fn take_out_new(
         forget(*items.allocator(), known, lookup);
         return take_out_by_classes(items);
     }
+    lookup.reserve(items.len() - *known);
     take_out(items, *known, lookup);
     if lookup.refused {
         forget(*items.allocator(), known, lookup);

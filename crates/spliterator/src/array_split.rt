@@ -4,8 +4,8 @@ ghost use Rattle.std.specs.Prelude.{◌≡◌, ◌+◌, ◌/◌, ◌^◌, ◌<�
 ghost use Rattle.trace.specs.Cover.{placed};
 ghost use Rattle.spliterator.specs.Splits.{IsSplit};
 
-use super::characteristics::{IMMUTABLE, NONNULL, ORDERED, SIZED, SUBSIZED};
-use super::long_spliterator::LongSpliterator;
+use crate::characteristics::{IMMUTABLE, NONNULL, ORDERED, SIZED, SUBSIZED};
+use crate::long_spliterator::LongSpliterator;
 use trace::Item;
 
 /// The items of `LongStream.of` or of a column, or a piece of them. It borrows the values.

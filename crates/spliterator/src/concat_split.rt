@@ -5,10 +5,10 @@ ghost use Rattle.trace.specs.Cover.{placed};
 ghost use Rattle.spliterator.specs.Parts.{plain_values, all_values, front_of};
 ghost use Rattle.spliterator.specs.Splits.{IsSplit};
 
-use super::array_split::ArraySplit;
-use super::characteristics::{IMMUTABLE, NONNULL, ORDERED, SIZED, SUBSIZED};
-use super::long_spliterator::LongSpliterator;
-use super::plain_split::PlainSplit;
+use crate::array_split::ArraySplit;
+use crate::characteristics::{IMMUTABLE, NONNULL, ORDERED, SIZED, SUBSIZED};
+use crate::long_spliterator::LongSpliterator;
+use crate::plain_split::PlainSplit;
 use trace::{Item, MAX_SOURCE_SIZE};
 
 /// The items of `LongStream.concat`, or a piece of them. It borrows the parts.

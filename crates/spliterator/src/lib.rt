@@ -7,6 +7,8 @@
 //! Begin with `specs/Splits.antt` and `long_spliterator.rt`, then `range_split.rt`. No call takes memory.
 //! Not promised: that a split is even, but for `RangeSplit` and `ArraySplit` (clause `half`).
 //! Java: `Spliterator.OfLong` (Java SE 17, `java.util`).
+//!
+//! Tested: `splits.rt` of `test_low`.
 #![tactic(auto)]
 
 mod array_split;

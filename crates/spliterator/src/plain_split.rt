@@ -5,10 +5,10 @@ ghost use Rattle.lambda_values.specs.declared.item.Item.{Item};
 ghost use Rattle.spliterator.specs.Parts.{plain_items};
 ghost use Rattle.spliterator.specs.Splits.{IsSplit};
 
-use super::array_split::ArraySplit;
-use super::characteristics::{IMMUTABLE, NONNULL, ORDERED, SIZED, SUBSIZED};
-use super::long_spliterator::LongSpliterator;
-use super::range_split::RangeSplit;
+use crate::array_split::ArraySplit;
+use crate::characteristics::{IMMUTABLE, NONNULL, ORDERED, SIZED, SUBSIZED};
+use crate::long_spliterator::LongSpliterator;
+use crate::range_split::RangeSplit;
 use trace::Item;
 
 /// A source that isn't a concatenation.

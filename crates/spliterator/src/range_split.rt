@@ -6,8 +6,8 @@ ghost use Rattle.std.specs.Int.{w64};
 ghost use Rattle.trace.specs.Cover.{counted, placed, distance};
 ghost use Rattle.spliterator.specs.Splits.{IsSplit, split_items};
 
-use super::characteristics::{DISTINCT, IMMUTABLE, NONNULL, ORDERED, SIZED, SORTED, SUBSIZED};
-use super::long_spliterator::LongSpliterator;
+use crate::characteristics::{DISTINCT, IMMUTABLE, NONNULL, ORDERED, SIZED, SORTED, SUBSIZED};
+use crate::long_spliterator::LongSpliterator;
 use trace::{Item, MAX_SOURCE_SIZE};
 
 /// The items of `LongStream.range` and `rangeClosed`, or a piece of them.

@@ -1,5 +1,6 @@
 -- A text has the form of one kind, which its front decides.
-use Rattle.std.proofs.Common.{◌≡◌, ℕ, ◌<◌, true, false, ◌==◌, cond, List, [], ◌∷◌, ◌++◌, length, Option, Some, None, refl, ap, ◌∙◌, arith}
+use Rattle.std.proofs.Common.{◌≡◌, ℕ, ◌<◌, true, false, ◌==◌, cond, List, [], ◌∷◌, ◌++◌, length, Option, Some, None}
+use Rattle.std.proofs.Common.{refl, ap, ◌∙◌, arith}
 use Rattle.std.specs.List.{list_all}
 use Rattle.std.specs.Char.{is_ascii_digit}
 use Rattle.std.proofs.lemmas.Grind.{common_steps}
@@ -20,7 +21,9 @@ kind_of_symbol (Some s) = Symbol s
 -- the kind of a text that is one token, by its front
 abbrev pub kind_at : List ℕ → TokenKind
 kind_at [] = Bad
-kind_at (a ∷ w) = cond (is_name_start a) Name (cond (is_ascii_digit a) Number (cond (a == 34) String (cond (a == 36) Reference (kind_of_symbol (symbol_at (a ∷ w))))))
+kind_at (a ∷ w) = cond (is_name_start a) Name
+    (cond (is_ascii_digit a) Number (cond (a == 34) String
+    (cond (a == 36) Reference (kind_of_symbol (symbol_at (a ∷ w))))))
 
 -- each symbol is read back from its bytes
 symbol_reads : (s : SymbolType) → kind_at (spelling_of s) ≡ Symbol s
@@ -62,17 +65,22 @@ symbol_reads symbol.Colon = refl
 pub digit_starts_no_name : (d : ℕ) → is_ascii_digit d ≡ true → is_name_start d ≡ false
 digit_starts_no_name d h = grind (arith, common_steps)
 
-kind_of_number : (digits mark w : List ℕ) → w ≡ digits ++ mark → 0 < length digits → list_all is_ascii_digit digits ≡ true → kind_at w ≡ Number
+kind_of_number : (digits mark w : List ℕ) → w ≡ digits ++ mark → 0 < length digits
+    → list_all is_ascii_digit digits ≡ true → kind_at w ≡ Number
 kind_of_number [] mark w is some all = absurd (omega arith)
 kind_of_number (d ∷ ds) mark w is some all =
     let digit : is_ascii_digit d ≡ true = and_left (is_ascii_digit d) _ all in
-    let later : TokenKind = cond (d == 34) String (cond (d == 36) Reference (kind_of_symbol (symbol_at (d ∷ (ds ++ mark))))) in
-    ap kind_at is ∙ ap (λ b. cond b Name (cond (is_ascii_digit d) Number later)) (digit_starts_no_name d digit) ∙ ap (λ b. cond b Number later) digit
+    let later : TokenKind = cond (d == 34) String
+    (cond (d == 36) Reference (kind_of_symbol (symbol_at (d ∷ (ds ++ mark))))) in
+    ap kind_at is ∙ ap (λ b. cond b Name (cond (is_ascii_digit d) Number later)) (digit_starts_no_name d digit)
+    ∙ ap (λ b. cond b Number later) digit
 
 -- what has a form has the kind that its front decides
 pub kind_is : (k : TokenKind) (w : List ℕ) → HasForm k w → kind_at w ≡ k
 kind_is Name [] h = absurd h
-kind_is Name (a ∷ w) h = ap (λ b. cond b Name (cond (is_ascii_digit a) Number (cond (a == 34) String (cond (a == 36) Reference (kind_of_symbol (symbol_at (a ∷ w))))))) h.0
+kind_is Name (a ∷ w) h = ap (λ b. cond b Name
+    (cond (is_ascii_digit a) Number (cond (a == 34) String
+    (cond (a == 36) Reference (kind_of_symbol (symbol_at (a ∷ w))))))) h.0
 kind_is Number w h = kind_of_number h.0 h.1 w h.2 h.3 h.4
 kind_is String w h = ap kind_at h.1
 kind_is Reference w h = ap kind_at h.1

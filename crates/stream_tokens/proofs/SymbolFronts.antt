@@ -1,5 +1,6 @@
 -- The symbol at the front of a text is spelled there, and no longer one is.
-use Rattle.std.proofs.Common.{◌≡◌, ℕ, ◌≤◌, Bool, true, false, ◌==◌, ◌&&◌, nat_eq, List, [], ◌∷◌, ◌++◌, length, take, codes, slice_get, Option, Some, None, refl, sym, ap, arith, lit≤, if◌then◌else◌}
+use Rattle.std.proofs.Common.{◌≡◌, ℕ, ◌≤◌, Bool, true, false, ◌==◌, ◌&&◌, nat_eq, List, [], ◌∷◌, ◌++◌, length, take}
+use Rattle.std.proofs.Common.{codes, slice_get, Option, Some, None, refl, sym, ap, arith, lit≤, if◌then◌else◌}
 use Rattle.std.specs.List.{starts_with}
 use Rattle.std.proofs.lemmas.Bool.{eqb-true}
 use Rattle.stream_tokens.specs.declared.symbol.Symbol.{Symbol}
@@ -13,24 +14,32 @@ abbrev pub BeginsWith : List ℕ → Option Symbol → Type 0
 BeginsWith text None = Unit {0}
 BeginsWith text (Some s) = (length (spelling_of s) ≤ length text) × (take (length (spelling_of s)) text ≡ spelling_of s)
 
-choose : (text : List ℕ) (b : Bool) (x y : Option Symbol) → (b ≡ true → BeginsWith text x) → BeginsWith text y → BeginsWith text (if b then x else y)
+choose : (text : List ℕ) (b : Bool) (x y : Option Symbol) → (b ≡ true → BeginsWith text x) → BeginsWith text y
+    → BeginsWith text (if b then x else y)
 choose text true x y f g = f refl
 choose text false x y f g = g
 
-choose_either : (text : List ℕ) (x y : Option Symbol) → BeginsWith text x → BeginsWith text y → BeginsWith text (either x y)
+choose_either : (text : List ℕ) (x y : Option Symbol) → BeginsWith text x → BeginsWith text y
+    → BeginsWith text (either x y)
 choose_either text None y f g = g
 choose_either text (Some s) y f g = f
 
 one_byte : (p a : ℕ) (rest : List ℕ) → (a == p) ≡ true → (1 ≤ length (a ∷ rest)) × (take 1 (a ∷ rest) ≡ p ∷ [])
 one_byte p a rest h = (omega arith, ap (λ x. x ∷ []) (eqb-true a p h))
 
-two_bytes : (p q a b : ℕ) (rest : List ℕ) → ((a == p) && (b == q)) ≡ true → (2 ≤ length (a ∷ b ∷ rest)) × (take 2 (a ∷ b ∷ rest) ≡ p ∷ q ∷ [])
-two_bytes p q a b rest h = (omega arith, λ i. eqb-true a p (and_left (a == p) (b == q) h) i ∷ eqb-true b q (and_right (a == p) (b == q) h) i ∷ [])
+two_bytes : (p q a b : ℕ) (rest : List ℕ) → ((a == p) && (b == q)) ≡ true
+    → (2 ≤ length (a ∷ b ∷ rest)) × (take 2 (a ∷ b ∷ rest) ≡ p ∷ q ∷ [])
+two_bytes p q a b rest h = (
+  omega arith,
+  λ i. eqb-true a p (and_left (a == p) (b == q) h) i ∷ eqb-true b q (and_right (a == p) (b == q) h) i ∷ [],
+)
 
-three_bytes : (text : List ℕ) → starts_with nat_eq text (codes ">>>") ≡ true → (3 ≤ length text) × (take 3 text ≡ codes ">>>")
+three_bytes : (text : List ℕ) → starts_with nat_eq text (codes ">>>") ≡ true
+    → (3 ≤ length text) × (take 3 text ≡ codes ">>>")
 three_bytes [] h = absurd (let e : false ≡ true = h in cc)
 three_bytes (a ∷ []) h = let e : false ≡ true = and_right (nat_eq 62 a) false h in absurd cc
-three_bytes (a ∷ b ∷ []) h = let e : false ≡ true = and_right (nat_eq 62 b) false (and_right (nat_eq 62 a) (nat_eq 62 b && false) h) in absurd cc
+three_bytes (a ∷ b ∷ []) h = let e : false ≡ true =
+    and_right (nat_eq 62 b) false (and_right (nat_eq 62 a) (nat_eq 62 b && false) h) in absurd cc
 three_bytes (a ∷ b ∷ c ∷ rest) h =
     let more = and_right (nat_eq 62 a) (nat_eq 62 b && (nat_eq 62 c && true)) h in
     let last = and_right (nat_eq 62 b) (nat_eq 62 c && true) more in
@@ -85,7 +94,8 @@ pair_with_begins a (b ∷ rest) = pair_begins a b rest
 
 pub symbol_begins : (a : ℕ) (rest : List ℕ) → BeginsWith (a ∷ rest) (symbol_at (a ∷ rest))
 symbol_begins a rest =
-    choose (a ∷ rest) (starts_with nat_eq (a ∷ rest) (codes ">>>")) (Some symbol.ShiftRightUnsigned) _ (three_bytes (a ∷ rest))
+    choose (a ∷ rest) (starts_with nat_eq (a ∷ rest) (codes ">>>")) (Some symbol.ShiftRightUnsigned) _
+    (three_bytes (a ∷ rest))
     (choose_either (a ∷ rest) _ _ (pair_with_begins a rest) (single_begins a rest))
 
 -- a symbol that is at least as long
@@ -131,16 +141,19 @@ or_single : (o : Option Symbol) (s : Symbol) → AtLeastAsLong 1 (either o (Some
 or_single None s = (s, refl, has_bytes s)
 or_single (Some t) s = (t, refl, has_bytes t)
 
-or_three : (b : Bool) (n : ℕ) (o : Option Symbol) → n ≤ 3 → AtLeastAsLong n o → AtLeastAsLong n (if b then Some symbol.ShiftRightUnsigned else o)
+or_three : (b : Bool) (n : ℕ) (o : Option Symbol) → n ≤ 3 → AtLeastAsLong n o
+    → AtLeastAsLong n (if b then Some symbol.ShiftRightUnsigned else o)
 or_three true n o h f = (symbol.ShiftRightUnsigned, refl, h)
 or_three false n o h f = f
 
 -- where a symbol stands at the front, the one that is taken is at least as long
-pub symbol_longest : (s : Symbol) (rest : List ℕ) → AtLeastAsLong (length (spelling_of s)) (symbol_at (spelling_of s ++ rest))
+pub symbol_longest : (s : Symbol) (rest : List ℕ)
+    → AtLeastAsLong (length (spelling_of s)) (symbol_at (spelling_of s ++ rest))
 symbol_longest symbol.Arrow rest = (symbol.Arrow, refl, lit≤ tt)
 symbol_longest symbol.DoubleColon rest = (symbol.DoubleColon, refl, lit≤ tt)
 symbol_longest symbol.ShiftLeft rest = (symbol.ShiftLeft, refl, lit≤ tt)
-symbol_longest symbol.ShiftRight rest = or_three (starts_with nat_eq (codes ">>" ++ rest) (codes ">>>")) 2 (Some symbol.ShiftRight) (lit≤ tt) (symbol.ShiftRight, refl, lit≤ tt)
+symbol_longest symbol.ShiftRight rest = or_three (starts_with nat_eq (codes ">>" ++ rest) (codes ">>>")) 2
+    (Some symbol.ShiftRight) (lit≤ tt) (symbol.ShiftRight, refl, lit≤ tt)
 symbol_longest symbol.ShiftRightUnsigned rest = (symbol.ShiftRightUnsigned, refl, lit≤ tt)
 symbol_longest symbol.LessOrEqual rest = (symbol.LessOrEqual, refl, lit≤ tt)
 symbol_longest symbol.GreaterOrEqual rest = (symbol.GreaterOrEqual, refl, lit≤ tt)
@@ -157,7 +170,9 @@ symbol_longest symbol.Dot rest = or_single (pair_with 46 (slice_get rest 0)) sym
 symbol_longest symbol.Semicolon rest = or_single (pair_with 59 (slice_get rest 0)) symbol.Semicolon
 symbol_longest symbol.Assign rest = or_single (pair_with 61 (slice_get rest 0)) symbol.Assign
 symbol_longest symbol.Less rest = or_single (pair_with 60 (slice_get rest 0)) symbol.Less
-symbol_longest symbol.Greater rest = or_three (starts_with nat_eq (codes ">" ++ rest) (codes ">>>")) 1 (either (pair_with 62 (slice_get rest 0)) (Some symbol.Greater)) (lit≤ tt) (or_single (pair_with 62 (slice_get rest 0)) symbol.Greater)
+symbol_longest symbol.Greater rest = or_three (starts_with nat_eq (codes ">" ++ rest) (codes ">>>")) 1
+    (either (pair_with 62 (slice_get rest 0)) (Some symbol.Greater)) (lit≤ tt)
+    (or_single (pair_with 62 (slice_get rest 0)) symbol.Greater)
 symbol_longest symbol.Plus rest = or_single (pair_with 43 (slice_get rest 0)) symbol.Plus
 symbol_longest symbol.Minus rest = or_single (pair_with 45 (slice_get rest 0)) symbol.Minus
 symbol_longest symbol.Star rest = or_single (pair_with 42 (slice_get rest 0)) symbol.Star

@@ -26,8 +26,10 @@ HasText-with_front [] left (job, more, e) = (job, more, with_front-nothing left 
 HasText-with_front (first ∷ texts) left (job, more, e) = (first, texts ++ job ∷ more, ap (with_front (first ∷ texts)) e)
 
 -- a job that is begun is the first of those that its lines give
-after_line : (job : JobText) (line : NumberedLine) (lines : List NumberedLine) (kind : LineKind) → kind_of line.bytes ≡ kind
-    → HasText (Ok (jobs_after job lines)) → HasText (Ok (jobs_after (joined job line.bytes) lines)) → HasText (Ok (jobs_after job (line ∷ lines)))
+after_line : (job : JobText) (line : NumberedLine) (lines : List NumberedLine) (kind : LineKind)
+    → kind_of line.bytes ≡ kind
+    → HasText (Ok (jobs_after job lines)) → HasText (Ok (jobs_after (joined job line.bytes) lines))
+    → HasText (Ok (jobs_after job (line ∷ lines)))
 after_line job line lines Skipped e skipped continues = rw e skipped
 after_line job line lines Continues e skipped continues = rw e continues
 after_line job line lines Begins e skipped continues = rw e (job, jobs_after (begun line) lines, refl)
@@ -35,9 +37,11 @@ after_line job line lines Begins e skipped continues = rw e (job, jobs_after (be
 pub HasText-jobs_after : (job : JobText) (lines : List NumberedLine) → HasText (Ok (jobs_after job lines))
 HasText-jobs_after job [] = (job, [], refl)
 HasText-jobs_after job (line ∷ lines) =
-    after_line job line lines (kind_of line.bytes) refl (HasText-jobs_after job lines) (HasText-jobs_after (joined job line.bytes) lines)
+    after_line job line lines (kind_of line.bytes) refl (HasText-jobs_after job lines)
+    (HasText-jobs_after (joined job line.bytes) lines)
 
-pub HasText-begun : (texts all : Texts) (job : JobText) (lines : List NumberedLine) → texts ≡ all → all ≡ Ok (jobs_after job lines) → HasText texts
+pub HasText-begun : (texts all : Texts) (job : JobText) (lines : List NumberedLine) → texts ≡ all
+    → all ≡ Ok (jobs_after job lines) → HasText texts
 HasText-begun texts all job lines e f = let (first, more, g) = HasText-jobs_after job lines in (first, more, e ∙ f ∙ g)
 
 -- a fact that needs no fault

@@ -20,7 +20,8 @@ IsMark (b ∷ c ∷ bs) = ⊥
 
 -- a digit at least, then at most one mark (JLS 17, 3.10.1; zeros may lead, and no other base has a form)
 abbrev pub IsNumber : List ℕ → Type 0
-IsNumber w = (digits mark : List ℕ) × (w ≡ digits ++ mark) × (0 < length digits) × (list_all is_ascii_digit digits ≡ true) × IsMark mark
+IsNumber w = (digits mark : List ℕ) × (w ≡ digits ++ mark) × (0 < length digits)
+    × (list_all is_ascii_digit digits ≡ true) × IsMark mark
 
 -- bytes between two quotes (JLS 17, 3.10.5; without escapes)
 abbrev pub IsString : List ℕ → Type 0

@@ -1,5 +1,6 @@
 -- Meaning: the texts of the jobs of a file, each with the number of the line that begins it.
-use Rattle.std.specs.Prelude.{ℕ, ◌+◌, ◌++◌, ◌||◌, ◌&&◌, Bool, false, nat_eq, nat_le, unwrap_or, Option, Some, None, List, [], ◌∷◌, codes, drop, if◌then◌else◌, Result, Ok, Err}
+use Rattle.std.specs.Prelude.{ℕ, ◌+◌, ◌++◌, ◌||◌, ◌&&◌, Bool, false, nat_eq, nat_le, unwrap_or, Option, Some, None}
+use Rattle.std.specs.Prelude.{List, [], ◌∷◌, codes, drop, if◌then◌else◌, Result, Ok, Err}
 use Rattle.std.specs.List.{starts_with, list_all}
 use Rattle.stream_tokens.specs.declared.job_text.JobText.{JobText}
 use Rattle.stream_tokens.specs.declared.job_text.TextFault.{TextFault}
@@ -48,7 +49,8 @@ joined job line = record job { text = job.text ++ 32 ∷ line }
 abbrev pub jobs_after : JobText → List NumberedLine → List JobText
 jobs_after job [] = job ∷ []
 jobs_after job (line ∷ lines) =
-    by_kind (kind_of line.bytes) (jobs_after job lines) (jobs_after (joined job line.bytes) lines) (job ∷ jobs_after (begun line) lines)
+    by_kind (kind_of line.bytes) (jobs_after job lines) (jobs_after (joined job line.bytes) lines)
+    (job ∷ jobs_after (begun line) lines)
 
 -- the jobs of some lines; before the first of them there is nothing to continue
 abbrev pub jobs_of_lines : List NumberedLine → Result (List JobText) TextFault
@@ -88,10 +90,12 @@ said_version newest line = version_after_blanks newest (without_blanks line)
 -- the version that the first line says that isn't skipped, else 1
 abbrev pub version_in : ℕ → List NumberedLine → ℕ
 version_in newest [] = 1
-version_in newest (line ∷ lines) = by_kind (kind_of line.bytes) (version_in newest lines) 1 (unwrap_or (said_version newest line.bytes) 1)
+version_in newest (line ∷ lines) = by_kind (kind_of line.bytes) (version_in newest lines) 1
+    (unwrap_or (said_version newest line.bytes) 1)
 
 -- helper: these jobs after a line that says a version, or else those
-abbrev pub after_said : Option ℕ → Result (List JobText) TextFault → Result (List JobText) TextFault → Result (List JobText) TextFault
+abbrev pub after_said : Option ℕ → Result (List JobText) TextFault → Result (List JobText) TextFault
+    → Result (List JobText) TextFault
 after_said (Some v) after all = after
 after_said None after all = all
 

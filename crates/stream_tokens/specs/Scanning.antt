@@ -1,5 +1,6 @@
 -- Condition: which symbol the scanner takes, by the bytes at the front of a text.
-use Rattle.std.specs.Prelude.{ℕ, ◌==◌, ◌&&◌, nat_eq, List, codes, slice_index, slice_get, if◌then◌else◌, Option, Some, None}
+use Rattle.std.specs.Prelude.{ℕ, ◌==◌, ◌&&◌, nat_eq, List, codes, slice_index, slice_get, if◌then◌else◌, Option, Some}
+use Rattle.std.specs.Prelude.{None}
 use Rattle.std.specs.List.{starts_with}
 use Rattle.stream_tokens.specs.declared.symbol.Symbol.{Symbol}
 use Rattle.stream_tokens.specs.declared.symbol.Symbol.TheVariants as symbol

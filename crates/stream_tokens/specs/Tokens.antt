@@ -1,5 +1,6 @@
 -- Meaning: the tokens of a text, cut from left to right, the longest first (JLS 17, 3.2).
-use Rattle.std.specs.Prelude.{◌≡◌, ℕ, ◌-◌, ◌<◌, ◌≤◌, true, false, ◌⊎◌, List, [], ◌∷◌, length, take, drop, slice_index, slice_range}
+use Rattle.std.specs.Prelude.{◌≡◌, ℕ, ◌-◌, ◌<◌, ◌≤◌, true, false, ◌⊎◌, List, [], ◌∷◌, length, take, drop, slice_index}
+use Rattle.std.specs.Prelude.{slice_range}
 use Rattle.std.specs.List.{list_all}
 use Rattle.stream_tokens.specs.declared.token.TokenKind.{TokenKind}
 use Rattle.stream_tokens.specs.declared.token.TokenKind.TheVariants.{Bad}
@@ -33,7 +34,8 @@ AreBlank text a b = list_all is_blank (slice_range text a b) ≡ true
 abbrev pub CutBetween : List ℕ → ℕ → List Token → ℕ → Type 0
 CutBetween text a [] b = (a ≤ b) × AreBlank text a b
 CutBetween text a (t ∷ ts) b =
-    (a ≤ t.from) × AreBlank text a t.from × (t.from < t.to) × IsFirstToken (drop t.from text) t.kind (t.to - t.from) × CutBetween text t.to ts b
+    (a ≤ t.from) × AreBlank text a t.from × (t.from < t.to) × IsFirstToken (drop t.from text) t.kind (t.to - t.from)
+    × CutBetween text t.to ts b
 
 -- the tokens of a text
 abbrev pub AreTokensOf : List Token → List ℕ → Type 0

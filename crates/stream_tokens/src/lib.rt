@@ -15,6 +15,9 @@
 //!
 //! Not promised: that a token is part of some grammar. A bad byte, `++`, `--` and a number like `007` are cut like all
 //! others, and the readers refuse them.
+//!
+//! Tested: `refusals.rt`, `reports.rt` of `test_engine`; `calls.rt`, `lambdas.rt` of `test_low`; runs of the programs
+//! in `tests`.
 #![tactic(auto)]
 
 mod bytes;

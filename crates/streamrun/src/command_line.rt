@@ -1,6 +1,6 @@
 //! The command line.
 
-use super::table_options::{table_of, with_table};
+use crate::table_options::{table_of, with_table};
 use clap::parser::ValueSource;
 use clap::{Arg, ArgAction, ArgMatches, Command, Error, value_parser};
 use run_settings::{Form, Language, Settings};

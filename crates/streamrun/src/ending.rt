@@ -10,7 +10,7 @@ ghost use Rattle.engine.specs.declared.fault.EngineFault.{EngineFault as meant_f
 ghost use Rattle.engine.specs.declared.fault.EngineFault.TheVariants as meant;
 ghost use Rattle.run_settings.specs.Asked.{asked_of};
 
-use super::progress::Progress;
+use crate::progress::Progress;
 use counted_io::{CountedRead, CountedWrite};
 use engine::{EngineFault, run, status_after};
 use run_settings::Settings;

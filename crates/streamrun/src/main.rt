@@ -9,6 +9,8 @@
 //! run is on a terminal, and what to write instead of a command line that can't be meant so.
 //! Not promised: that a file can be read or written, or that memory is there; the line on standard
 //! error says which it was.
+//!
+//! Tested: runs of the programs in `tests`.
 #![tactic(auto)]
 
 ghost use Rattle.std.specs.Prelude.{◌≡◌, ◌==◌, ◌&&◌, if◌then◌else◌};

@@ -1,6 +1,6 @@
 //! The options of the command line that say which column file is read, and how.
 
-use super::command_line::flag;
+use crate::command_line::flag;
 use clap::{Arg, ArgAction, ArgMatches, Command, value_parser};
 use run_settings::{Separator, TableSetting};
 use std::alloc::{AllocError, Global};

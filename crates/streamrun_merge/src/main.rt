@@ -6,6 +6,8 @@
 //! opening of files.
 //! Not promised: that a file can be opened, read or written, or that memory is there; the line on standard error says
 //! which it was.
+//!
+//! Tested: runs of the programs in `tests`.
 #![tactic(auto)]
 
 mod command_line;

@@ -8,7 +8,8 @@ use Rattle.tables.specs.Table.{cells_named}
 use Rattle.tables.specs.TableOfColumns.{named}
 
 pub cells_named-map : (name : List ℕ) (columns : List Column)
-    → cells_named name (map named columns) ≡ option_map (λ c. c.cells.items) (find (λ c. bytes_eq c.name.items name) columns)
+    → cells_named name (map named columns)
+    ≡ option_map (λ c. c.cells.items) (find (λ c. bytes_eq c.name.items name) columns)
 cells_named-map name [] = refl
 cells_named-map name (c ∷ columns) = elim (cases_Bool (bytes_eq c.name.items name)) [
   | inl same ↦ rw same refl

@@ -1,5 +1,6 @@
 -- What the callers know that join seats, and that arm and climb a tree.
-use Rattle.std.proofs.Common.{◌≡◌, ◌≢◌, ℕ, ◌+◌, ◌-◌, ◌*◌, ◌/◌, ◌%◌, ◌<◌, ◌≤◌, [], ◌∷◌, ◌++◌, List, Some, cond, false, nat_lt, ap, ◌∙◌, sym, subst, arith, ne_eqb, eq-eqb}
+use Rattle.std.proofs.Common.{◌≡◌, ◌≢◌, ℕ, ◌+◌, ◌-◌, ◌*◌, ◌/◌, ◌%◌, ◌<◌, ◌≤◌, [], ◌∷◌, ◌++◌, List, Some, cond, false}
+use Rattle.std.proofs.Common.{nat_lt, ap, ◌∙◌, sym, subst, arith, ne_eqb, eq-eqb}
 use Rattle.std.proofs.Math.Nat.{mod-lt}
 use Rattle.std.proofs.lemmas.Grind.{common_steps}
 use mathlib.Core.Logic.{dite}
@@ -13,10 +14,14 @@ use Rattle.pending_count.specs.Steps.{IsArrived, IsArmed, IsAdded, IsClaimed, Is
 use Rattle.test_completers.specs.RandomTrees.{parent, Knows, Has}
 use Rattle.pending_count.proofs.SumLemmas.{one_at, total-append, total-minus, total-less, at_here, at_else, at_sym}
 use Rattle.pending_count.proofs.RecordLemmas.{fresh-count, fresh_here, copies_fit}
-use Rattle.pending_count.proofs.CallerLemmas.{was_pending, was_last, pending_held, last_held, last_noted, last_side_notes, last_sides, claim_held, claim_noted, claim_side_notes, claim_sides, arm_held, arm_note, arm_note_else, arm_side_note, arm_side_note_else, arm_sides}
+use Rattle.pending_count.proofs.CallerLemmas.{was_pending, was_last, pending_held, last_held, last_noted}
+use Rattle.pending_count.proofs.CallerLemmas.{last_side_notes, last_sides, claim_held, claim_noted, claim_side_notes}
+use Rattle.pending_count.proofs.CallerLemmas.{claim_sides, arm_held, arm_note, arm_note_else, arm_side_note}
+use Rattle.pending_count.proofs.CallerLemmas.{arm_side_note_else, arm_sides}
 
 -- an arrival that wasn't the last
-module _ {S T : Type 0} {nodes actor : ℕ} {v w : View T} (node n k : ℕ) (told : IsArrived S nodes actor node v n w) (have : 0 < count node v.held) (answer : Pending k ≡ reply_of_arrival (n - 1)) where
+module _ {S T : Type 0} {nodes actor : ℕ} {v w : View T} (node n k : ℕ) (told : IsArrived S nodes actor node v n w)
+    (have : 0 < count node v.held) (answer : Pending k ≡ reply_of_arrival (n - 1)) where
   more : n ≢ 1
   more = (was_pending n k answer told.some_owed).0
 
@@ -24,7 +29,8 @@ module _ {S T : Type 0} {nodes actor : ℕ} {v w : View T} (node n k : ℕ) (tol
   only_one_fewer j = let h = pending_held node n told have more j in let s = at_sym j node in omega arith
 
 -- k arrivals at the node are split off
-module _ {T : Type 0} (node k c : ℕ) (v rest part : View T) (is : rest ≡ rest_view node k c [] v) (off : part ≡ part_view node k c [] v) where
+module _ {T : Type 0} (node k c : ℕ) (v rest part : View T) (is : rest ≡ rest_view node k c [] v)
+    (off : part ≡ part_view node k c [] v) where
   pub rest_knows : (upto : ℕ) → Knows upto v → Knows upto rest
   rest_knows upto old = record {
     notes = λ i p l. ap (λ (u : View T). note_of i u.noted) is ∙ old.notes i p l;
@@ -54,8 +60,10 @@ module _ {T : Type 0} (node k c : ℕ) (v rest part : View T) (is : rest ≡ res
 note_first : {A : Type 0} (i : ℕ) (a : A) (xs ys : List (ℕ × A)) → note_of i xs ≡ Some a → note_of i (xs ++ ys) ≡ Some a
 note_first i a [] ys e = absurd (grind arith)
 note_first i a (x ∷ xs) ys e = dite (ℕ_discrete x.0 i)
-    (λ h. ap (λ b. cond b (Some x.1) (note_of i (xs ++ ys))) (eq-eqb x.0 i h) ∙ sym (ap (λ b. cond b (Some x.1) (note_of i xs)) (eq-eqb x.0 i h)) ∙ e)
-    (λ n. ap (λ b. cond b (Some x.1) (note_of i (xs ++ ys))) (ne_eqb x.0 i n) ∙ note_first i a xs ys (sym (ap (λ b. cond b (Some x.1) (note_of i xs)) (ne_eqb x.0 i n)) ∙ e))
+    (λ h. ap (λ b. cond b (Some x.1) (note_of i (xs ++ ys))) (eq-eqb x.0 i h)
+    ∙ sym (ap (λ b. cond b (Some x.1) (note_of i xs)) (eq-eqb x.0 i h)) ∙ e)
+    (λ n. ap (λ b. cond b (Some x.1) (note_of i (xs ++ ys))) (ne_eqb x.0 i n)
+    ∙ note_first i a xs ys (sym (ap (λ b. cond b (Some x.1) (note_of i xs)) (ne_eqb x.0 i n)) ∙ e))
 
 -- a seat is joined into one
 module _ {T : Type 0} (v u both : View T) (all : both ≡ joined_view v u) where
@@ -64,29 +72,41 @@ module _ {T : Type 0} (v u both : View T) (all : both ≡ joined_view v u) where
 
   pub joined_knows : (upto : ℕ) → Knows upto v → Knows upto u → Knows upto both
   joined_knows upto mine theirs = record {
-    notes = λ i p l. ap (λ (w : View T). note_of i w.noted) all ∙ note_first i (parent i ∷ []) v.noted u.noted (mine.notes i p l);
-    side_notes = λ i p l. ap (λ (w : View T). note_of i w.noted_sides) all ∙ note_first i [] v.noted_sides u.noted_sides (mine.side_notes i p l);
-    plain = λ i. ap (λ (w : View T). count i w.sides) all ∙ (let a = total-append (one_at i) v.sides u.sides in let m = mine.plain i in let t = theirs.plain i in omega arith);
+    notes = λ i p l. ap (λ (w : View T). note_of i w.noted) all
+        ∙ note_first i (parent i ∷ []) v.noted u.noted (mine.notes i p l);
+    side_notes = λ i p l. ap (λ (w : View T). note_of i w.noted_sides) all
+        ∙ note_first i [] v.noted_sides u.noted_sides (mine.side_notes i p l);
+    plain = λ i. ap (λ (w : View T). count i w.sides) all
+        ∙ (let a = total-append (one_at i) v.sides u.sides in let m = mine.plain i in let t = theirs.plain i in
+        omega arith);
   }
 
 -- a node is armed to keep the arrival that was added at its parent
-module _ {S T : Type 0} {nodes k1 k2 k3 : ℕ} (node p n : ℕ) (is : p ≡ parent node) (v0 v1 v2 v3 : View T) (add : IsAdded S nodes k1 p 1 v0 v1) (claim : IsClaimed S nodes k2 v1 n v2) (drew : drawn_node nodes n ≡ Some node) (arm : IsArmed S nodes k3 node 0 (p ∷ []) v2 v3) (old : Knows (node - 1) v0) where
+module _ {S T : Type 0} {nodes k1 k2 k3 : ℕ} (node p n : ℕ) (is : p ≡ parent node) (v0 v1 v2 v3 : View T)
+    (add : IsAdded S nodes k1 p 1 v0 v1) (claim : IsClaimed S nodes k2 v1 n v2) (drew : drawn_node nodes n ≡ Some node)
+    (arm : IsArmed S nodes k3 node 0 (p ∷ []) v2 v3) (old : Knows (node - 1) v0) where
   none_held : (k : ℕ) → count k v2.sides ≡ 0
   none_held k = ap (count k) (claim_sides n node claim drew ∙ ap (λ (u : View T). u.sides) add.view) ∙ old.plain k
 
   pub grown_knows : Knows node v3
   grown_knows = record {
     notes = λ i q l. dite (ℕ_discrete i node)
-        (λ e. subst (λ k. note_of k v3.noted ≡ Some (parent k ∷ [])) (sym e) (arm_note node 0 (p ∷ []) arm ∙ ap (λ k. Some (k ∷ [])) is))
-        (λ m. arm_note_else node 0 (p ∷ []) arm i m ∙ ap (note_of i) (claim_noted n node claim drew ∙ ap (λ (u : View T). u.noted) add.view) ∙ old.notes i q (omega arith));
+        (λ e. subst (λ k. note_of k v3.noted ≡ Some (parent k ∷ [])) (sym e)
+        (arm_note node 0 (p ∷ []) arm ∙ ap (λ k. Some (k ∷ [])) is))
+        (λ m. arm_note_else node 0 (p ∷ []) arm i m
+        ∙ ap (note_of i) (claim_noted n node claim drew ∙ ap (λ (u : View T). u.noted) add.view)
+        ∙ old.notes i q (omega arith));
     side_notes = λ i q l. dite (ℕ_discrete i node)
         (λ e. subst (λ k. note_of k v3.noted_sides ≡ Some []) (sym e) (arm_side_note node 0 (p ∷ []) arm none_held))
-        (λ m. arm_side_note_else node 0 (p ∷ []) arm i m ∙ ap (note_of i) (claim_side_notes n node claim drew ∙ ap (λ (u : View T). u.noted_sides) add.view) ∙ old.side_notes i q (omega arith));
+        (λ m. arm_side_note_else node 0 (p ∷ []) arm i m
+        ∙ ap (note_of i) (claim_side_notes n node claim drew ∙ ap (λ (u : View T). u.noted_sides) add.view)
+        ∙ old.side_notes i q (omega arith));
     plain = arm_sides node 0 (p ∷ []) arm none_held;
   }
 
   more_held : (i : ℕ) → count i v2.held ≡ count i (copies 1 p) + count i v0.held
-  more_held i = ap (count i) (claim_held n node claim drew) ∙ ap (λ (u : View T). count i u.held) add.view ∙ total-append (one_at i) (copies 1 p) v0.held
+  more_held i = ap (count i) (claim_held n node claim drew) ∙ ap (λ (u : View T). count i u.held) add.view
+      ∙ total-append (one_at i) (copies 1 p) v0.held
 
   pub grown_has : Has 1 node v0 → Has 1 (node + 1) v3
   grown_has has i low high =
@@ -100,13 +120,16 @@ pub parent_low : (node : ℕ) → 0 < node → parent node < node
 parent_low node pos = dite (ℕ_discrete node 1)
     (λ e. subst (λ k. parent k < k) (sym e) (omega arith))
     (λ n. let b : nat_lt node 2 ≡ false = not_low node (omega arith) in
-    subst (λ t. cond t 0 (node * 2654435761 / 65536 % (node - 1) + 1) < node) (sym b) (let m = mod-lt (node * 2654435761 / 65536) {m = node - 1} (omega arith) in omega arith))
+    subst (λ t. cond t 0 (node * 2654435761 / 65536 % (node - 1) + 1) < node) (sym b)
+    (let m = mod-lt (node * 2654435761 / 65536) {m = node - 1} (omega arith) in omega arith))
   where
     not_low : (node : ℕ) → 1 < node → nat_lt node 2 ≡ false
     not_low node h = grind (arith, common_steps)
 
 -- the last arrival at a node of the tree
-module _ {S T : Type 0} {nodes actor : ℕ} {v w : View T} (node n : ℕ) (told : IsArrived S nodes actor node v n w) (have : 0 < count node v.held) (answer : Last ≡ reply_of_arrival (n - 1)) (old : Knows nodes v) (pos : 0 < node) (low : node ≤ nodes) where
+module _ {S T : Type 0} {nodes actor : ℕ} {v w : View T} (node n : ℕ) (told : IsArrived S nodes actor node v n w)
+    (have : 0 < count node v.held) (answer : Last ≡ reply_of_arrival (n - 1)) (old : Knows nodes v) (pos : 0 < node)
+    (low : node ≤ nodes) where
   one : n ≡ 1
   one = was_last n answer told.some_owed
 
@@ -118,7 +141,8 @@ module _ {S T : Type 0} {nodes actor : ℕ} {v w : View T} (node n : ℕ) (told 
   }
 
   pub last_gives : (j : ℕ) → count j w.held + count j (node ∷ []) ≡ count j (parent node ∷ []) + count j v.held
-  last_gives j = let h = last_held node n told have one (parent node ∷ []) (old.notes node pos low) j in let s = at_sym j node in omega arith
+  last_gives j = let h = last_held node n told have one (parent node ∷ []) (old.notes node pos low) j in
+      let s = at_sym j node in omega arith
 
   pub parent_is_back : 0 < count (parent node) w.held
   parent_is_back =

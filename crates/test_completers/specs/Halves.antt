@@ -13,7 +13,8 @@ abbrev pub size_of : Place NumberCut → ℕ
 size_of p = ends_at p.tag p.side - begins p.tag p.side
 
 -- the seat can fork there, and the numbers of the side lie in the source
-pub record CanWalk {V K : Type 0} {g : Ghosts K V NumberCut} (counts : Counts V K NumberCut) (source : List ℤ) (half : Half V K NumberCut g) : Type 0 where
+pub record CanWalk {V K : Type 0} {g : Ghosts K V NumberCut} (counts : Counts V K NumberCut) (source : List ℤ)
+    (half : Half V K NumberCut g) : Type 0 where
   pub fork : CanFork (table_id_of counts) half.place half.seat
   pub ordered : begins half.place.tag half.place.side ≤ ends_at half.place.tag half.place.side
   pub within : ends_at half.place.tag half.place.side ≤ length source

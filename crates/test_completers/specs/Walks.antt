@@ -1,5 +1,7 @@
--- Condition: what the walk of a part of a list of numbers gives: its numbers, or the place of its first negative number.
-use Rattle.std.specs.Prelude.{◌≡◌, ℕ, ℤ, pos, ◌-◌, ◌<◌, ◌≤◌, true, false, List, take, drop, Some, Result, Ok, Err, int_lt, slice_index_or, ⊤}
+-- Condition: what the walk of a part of a list of numbers gives: its numbers, or the place of its first negative
+-- number.
+use Rattle.std.specs.Prelude.{◌≡◌, ℕ, ℤ, pos, ◌-◌, ◌<◌, ◌≤◌, true, false, List, take, drop, Some, Result, Ok, Err}
+use Rattle.std.specs.Prelude.{int_lt, slice_index_or, ⊤}
 use Rattle.pending_count.specs.declared.place.Side.{Side}
 use Rattle.pending_count.specs.declared.place.Side.TheVariants.{Left, Right, Whole}
 use Rattle.completer_tree.specs.declared.part.Failure.{Failure}
@@ -27,7 +29,8 @@ IsClean xs from to = (i : ℕ) → from ≤ i → i < to → int_lt (slice_index
 
 -- the first negative one of these is at this place
 abbrev pub IsFirstNegative : List ℤ → ℕ → ℕ → ℕ → Type 0
-IsFirstNegative xs from to i = (from ≤ i) × (i < to) × (int_lt (slice_index_or xs i (pos 0)) (pos 0) ≡ true) × IsClean xs from i
+IsFirstNegative xs from to i = (from ≤ i) × (i < to) × (int_lt (slice_index_or xs i (pos 0)) (pos 0) ≡ true)
+    × IsClean xs from i
 
 -- the walk gives all these numbers, or a fault at the place of the first negative one
 abbrev pub Walked : {X : Type 0} → (X → List ℤ) → List ℤ → ℕ → ℕ → Result X Failure → Type 0

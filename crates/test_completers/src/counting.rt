@@ -35,7 +35,7 @@ pub(crate) type Plain = Counts<(), NoPair>;
 
 pub(crate) type PlainSeat = Seat<(), NoPair>;
 
-// Two nodes: the second keeps an arrival at the first, and the first one at END. What each step answered.
+/// Two nodes: the second keeps an arrival at the first, and the first one at END. What each step answered.
 fn two_nodes(counts: &Plain, seat: PlainSeat) -> Option<([Node; 2], u64, [Node; 2], u64)>
     requires table { IsSeatOf counts.now seat }
     requires first { view_of seat ≡ first_view 1 }
@@ -60,7 +60,7 @@ fn two_nodes(counts: &Plain, seat: PlainSeat) -> Option<([Node; 2], u64, [Node; 
     Some(([a, b], pending, [second.node(), first.node()], left))
 }
 
-// Splits k, k - 1, .. 1 arrivals off, each time from the second seat of the split before, with half its credit.
+/// Splits k, k - 1, .. 1 arrivals off, each time from the second seat of the split before, with half its credit.
 fn last_part(counts: &Plain, seat: PlainSeat, node: Node, k: u64) -> PlainSeat
     requires table { IsSeatOf counts.now seat }
     requires node { 0 < node }
@@ -78,7 +78,7 @@ fn last_part(counts: &Plain, seat: PlainSeat, node: Node, k: u64) -> PlainSeat
     last_part(counts, part, node, k - 1)
 }
 
-// What a seat finds whose credit was halved away: no claim, no addition, and what its arrival answers.
+/// What a seat finds whose credit was halved away: no claim, no addition, and what its arrival answers.
 fn without_credit(counts: &Plain, seat: PlainSeat) -> Option<(Option<Node>, u64)>
     requires table { IsSeatOf counts.now seat }
     requires first { view_of seat ≡ first_view 0 }
@@ -100,7 +100,7 @@ fn without_credit(counts: &Plain, seat: PlainSeat) -> Option<(Option<Node>, u64)
     Some((second, pending))
 }
 
-// What one arrival answers: the pending count, or none where it was the last.
+/// What one arrival answers: the pending count, or none where it was the last.
 fn one_arrival(counts: &Plain, seat: PlainSeat, node: Node) -> Option<u64>
     requires table { IsSeatOf counts.now seat }
     requires node { 0 < node }
@@ -113,7 +113,7 @@ fn one_arrival(counts: &Plain, seat: PlainSeat, node: Node) -> Option<u64>
     }
 }
 
-// A node with three arrivals, each with a seat of its own.
+/// A node with three arrivals, each with a seat of its own.
 fn three_parts(counts: &Plain, seat: PlainSeat) -> Option<(Node, PlainSeat, PlainSeat, PlainSeat)>
     requires table { IsSeatOf counts.now seat }
     requires first { view_of seat ≡ first_view 0 }
@@ -132,7 +132,7 @@ fn three_parts(counts: &Plain, seat: PlainSeat) -> Option<(Node, PlainSeat, Plai
     Some((node, first, second, third))
 }
 
-// Its three arrivals, each made by a thread of its own.
+/// Its three arrivals, each made by a thread of its own.
 fn on_three_threads<R: Threads + Sync>(
     rt: &R,
     counts: &Plain,

@@ -12,7 +12,7 @@ fn small(word: Option<&str>) -> Option<u32> {
     word?.parse().ok()
 }
 
-// An arming, whose onward nodes are the last of the words.
+/// An arming, whose onward nodes are the last of the words.
 fn arming(
     alloc: Global,
     actor: Actor,
@@ -32,7 +32,7 @@ fn arming(
     })
 }
 
-// An action: its word, then its numbers.
+/// An action: its word, then its numbers.
 fn action(alloc: Global, text: &str) -> Option<Action> {
     let mut words = text.split_whitespace();
     let name = words.next()?;
@@ -90,7 +90,7 @@ fn actions(alloc: Global, script: &str) -> Option<Vec<Action>> {
     Some(actions)
 }
 
-// Whether the actions give these replies, one after the other, on a new graph of three nodes.
+/// Whether the actions give these replies, one after the other, on a new graph of three nodes.
 fn gives_replies(alloc: Global, actions: &[Action], replies: &str) -> Option<bool> {
     if replies.split(';').count() != actions.len() {
         return Some(false);
@@ -104,7 +104,7 @@ fn gives_replies(alloc: Global, actions: &[Action], replies: &str) -> Option<boo
     Some(true)
 }
 
-// Whether these are the nodes.
+/// Whether these are the nodes.
 fn are_nodes(found: &[Node], nodes: &str) -> bool {
     let mut words = nodes.split_whitespace();
     for node in found {
@@ -115,7 +115,7 @@ fn are_nodes(found: &[Node], nodes: &str) -> bool {
     words.next().is_none()
 }
 
-// Whether the script is legal on a new graph of three nodes, gives these replies, and runs these nodes.
+/// Whether the script is legal on a new graph of three nodes, gives these replies, and runs these nodes.
 fn gives(alloc: Global, row: &[&str; 3]) -> Option<bool> {
     let [script, replies, runs] = row;
     let actions = actions(alloc, script)?;
@@ -123,7 +123,7 @@ fn gives(alloc: Global, row: &[&str; 3]) -> Option<bool> {
     Some(gives_replies(alloc, &actions, replies)? && are_nodes(&ran, runs))
 }
 
-// Whether the action of the script at the index is refused so, on a new graph of two nodes and one end.
+/// Whether the action of the script at the index is refused so, on a new graph of two nodes and one end.
 fn refuses(alloc: Global, script: &str, reason: Illegal, index: usize) -> Option<bool> {
     let actions = actions(alloc, script)?;
     match play(alloc, 2, 1, &actions) {
@@ -139,8 +139,8 @@ fn nodes_stand_in_ascending_order(rt: HostRuntime) -> Result<(), Fail> {
     Ok(())
 }
 
-// Java 17's own `CountedCompleter` printed all but the last four rows for these trees, by
-// `java reference/completers/CompleterCalls.java`.
+/// Java 17's own `CountedCompleter` printed all but the last four rows for these trees, by
+/// `java reference/completers/CompleterCalls.java`.
 #[test]
 fn scripts_give_their_replies_as_javas_calls_do(rt: HostRuntime) -> Result<(), Fail> {
     let rows = [
@@ -242,7 +242,7 @@ fn the_first_reason_that_applies_is_given(rt: HostRuntime) -> Result<(), Fail> {
     Ok(())
 }
 
-// Takes an action, and once more if an allocation failed: the graph is as it was then.
+/// Takes an action, and once more if an allocation failed: the graph is as it was then.
 fn persists(graph: &mut Graph, action: &Action) -> Result<Option<Reply>, AllocError> {
     match step(graph, action.clone()?) {
         Err(Illegal::NoMemory) => Ok(step(graph, action.clone()?).ok()),

@@ -9,7 +9,7 @@ use completer_tree::Tree;
 use completion_core::Node;
 use std::test::Fail;
 
-// Arms a node above a path, to keep the arrival at the path's first node.
+/// Arms a node above a path, to keep the arrival at the path's first node.
 fn arm_above(
     counts: &Plain,
     seat: PlainSeat,
@@ -28,14 +28,14 @@ fn arm_above(
     Some((counts.arm(seat, node, pending, first_of(path)), node))
 }
 
-// The first node of a path, if there is one.
+/// The first node of a path, if there is one.
 fn first_of(path: &[Node]) -> &[Node]
     ensures { result.now ≡ take 1 path.now }
 {
     if path.is_empty() { path } else { &path[..1] }
 }
 
-// What a path of three nodes with these pending counts answers; the first count is for the path's first node.
+/// What a path of three nodes with these pending counts answers; the first count is for the path's first node.
 fn finished(counts: &Plain, seat: PlainSeat, pending: [u32; 3]) -> Option<usize>
     requires table { IsSeatOf counts.now seat }
     requires plain { (k : ℕ) → count k (view_of seat).sides ≡ 0 }

@@ -16,8 +16,8 @@ use std::thread::Threads;
 
 const NODES: Node = 10_000;
 
-// Where a node keeps an arrival: END for the first node, a smaller one, picked by a multiplicative hash, for each
-// other.
+/// Where a node keeps an arrival: END for the first node, a smaller one, picked by a multiplicative hash, for each
+/// other.
 fn parent_of(node: Node) -> Node
     ensures { result ≡ parent node }
 {
@@ -27,7 +27,7 @@ fn parent_of(node: Node) -> Node
     (u64::from(node) * 2_654_435_761 / 65_536 % u64::from(node - 1)) as Node + 1
 }
 
-// Arms the first node, which keeps the arrival at END.
+/// Arms the first node, which keeps the arrival at END.
 fn plant(counts: &Plain, seat: PlainSeat) -> Option<PlainSeat>
     requires table { IsSeatOf counts.now seat }
     requires first { view_of seat ≡ first_view 1 }
@@ -40,7 +40,7 @@ fn plant(counts: &Plain, seat: PlainSeat) -> Option<PlainSeat>
     Some(counts.arm(seat, 1, 0, &[0]))
 }
 
-// Arms the next node, which keeps a new arrival at its parent. `None` where another node is drawn than this one.
+/// Arms the next node, which keeps a new arrival at its parent. `None` where another node is drawn than this one.
 fn grow_one(counts: &Plain, seat: PlainSeat, node: Node) -> Option<PlainSeat>
     requires table { IsSeatOf counts.now seat }
     requires node { 1 < node }
@@ -60,8 +60,8 @@ fn grow_one(counts: &Plain, seat: PlainSeat, node: Node) -> Option<PlainSeat>
     Some(counts.arm(seat, node, 0, &[parent]))
 }
 
-// Arms all nodes in order, on one seat. Each then owes one arrival for itself, and one for each node whose parent it
-// is.
+/// Arms all nodes in order, on one seat. Each then owes one arrival for itself, and one for each node whose parent it
+/// is.
 fn grow(counts: &Plain, seat: PlainSeat) -> Option<PlainSeat>
     requires table { IsSeatOf counts.now seat }
     requires first { view_of seat ≡ first_view 1 }
@@ -74,8 +74,8 @@ fn grow(counts: &Plain, seat: PlainSeat) -> Option<PlainSeat>
     Some(seat)
 }
 
-// Arrives at the node, and where that is the last arrival, at what the node kept, and so on up to END. `entered` gets
-// each node that may run.
+/// Arrives at the node, and where that is the last arrival, at what the node kept, and so on up to END. `entered` gets
+/// each node that may run.
 fn climb(
     counts: &Plain,
     seat: PlainSeat,
@@ -101,7 +101,7 @@ fn climb(
     climb(counts, seat, parent, entered)
 }
 
-// Climbs from each node `from`, `from + 1`, .. `to - 1`: the nodes that it entered.
+/// Climbs from each node `from`, `from + 1`, .. `to - 1`: the nodes that it entered.
 fn climb_all(
     alloc: Global,
     counts: &Plain,
@@ -120,8 +120,8 @@ fn climb_all(
     Ok(entered)
 }
 
-// A second seat for the nodes from `middle` on: their arrivals are split off one by one, and each is joined to that
-// seat.
+/// A second seat for the nodes from `middle` on: their arrivals are split off one by one, and each is joined to that
+/// seat.
 fn hand_over(
     counts: &Plain,
     seat: PlainSeat,
@@ -143,14 +143,14 @@ fn hand_over(
     (rest, part)
 }
 
-// The nodes `from`, `from + 1`, .. `to - 1`.
+/// The nodes `from`, `from + 1`, .. `to - 1`.
 #[derive(Clone, Copy)]
 struct NodeRange {
     from: Node,
     to: Node,
 }
 
-// Climbs from each node of the range, on 2^`levels` threads: the nodes that it entered.
+/// Climbs from each node of the range, on 2^`levels` threads: the nodes that it entered.
 #[cycle(halves)]
 fn on_threads<R: Threads + Sync>(
     rt: &R,

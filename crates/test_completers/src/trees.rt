@@ -62,7 +62,7 @@ impl Continuation<Shared> for First {
     }
 }
 
-// The numbers from 0 up to, not with, another, with -1 at some places.
+/// The numbers from 0 up to, not with, another, with -1 at some places.
 fn numbers(alloc: Global, count: u16, bad: &[u16]) -> Result<Vec<i64>, AllocError> {
     let mut numbers = Vec::new(alloc);
     for i in 0..count {
@@ -71,8 +71,8 @@ fn numbers(alloc: Global, count: u16, bad: &[u16]) -> Result<Vec<i64>, AllocErro
     Ok(numbers)
 }
 
-// Whether the walk gives these numbers, or a fault at the place, over trees of any number of nodes on 1, 2 and 8
-// threads.
+/// Whether the walk gives these numbers, or a fault at the place, over trees of any number of nodes on 1, 2 and 8
+/// threads.
 fn gives<R: Threads + Sync>(rt: &R, alloc: Global, numbers: &[i64], fault: Option<u64>) -> bool {
     for nodes in [0, 1, 2, 3, 4096] {
         for levels in [0, 1, 3] {
@@ -133,7 +133,7 @@ fn values_of_a_dropped_tree_are_dropped_once(rt: HostRuntime) -> Result<(), Fail
     Ok(())
 }
 
-// A failure beside a value that was handed in: whether it is the result, and let the value go.
+/// A failure beside a value that was handed in: whether it is the result, and let the value go.
 fn fails_beside(alloc: Global, value: &Arc<u8>) -> Option<bool> {
     let (counts, seat) = TreeCounts::<Shared, First>::new(alloc, 1, 0).ok()?;
     let tree = Tree::new(&counts, &[]);
@@ -160,8 +160,8 @@ fn a_failure_lets_the_other_side_s_value_go(rt: HostRuntime) -> Result<(), Fail>
     Ok(())
 }
 
-// Hands 8 in on the right and then 7 on the left: the top of the tree, the pending count after the first step, and what
-// the last one finds.
+/// Hands 8 in on the right and then 7 on the left: the top of the tree, the pending count after the first step, and
+/// what the last one finds.
 fn right_side_first(alloc: Global, seven: Shared, eight: Shared) -> Option<(Node, u64, u8)> {
     let (counts, seat) = TreeCounts::<Shared, First>::new(alloc, 1, 0).ok()?;
     let tree = Tree::new(&counts, &[]);

@@ -100,7 +100,7 @@ pub(crate) type ItemSeat<P> = TreeSeat<Items<P>, Append<P>>;
 
 pub(crate) type ItemHalf<P> = Half<Handed<Items<P>>, Completer<Items<P>, Append<P>>>;
 
-// The place of the first negative number from one place up to, not with, another.
+/// The place of the first negative number from one place up to, not with, another.
 fn first_negative(numbers: &[i64], from: usize, to: usize) -> Option<usize>
     requires { (from ≤ to) × (to ≤ length numbers.now) }
     ensures { MatchOption result (IsClean numbers.now from to) (λ i. IsFirstNegative numbers.now from to i) }
@@ -159,7 +159,7 @@ pub(crate) fn range_of(place: &Place<NumberCut>) -> (usize, usize)
     }
 }
 
-// Walks one side of a node: in one piece, or in two where it is long enough and a node is left, on 2^`levels` threads.
+/// Walks one side of a node: in one piece, or in two where it is long enough and a node is left, on 2^`levels` threads.
 #[cycle(walk)]
 fn walk<P: Planned + Send + Sync, R: Threads + Sync>(
     rt: &R,

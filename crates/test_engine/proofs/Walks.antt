@@ -19,5 +19,6 @@ items_length place (x ∷ xs) = ap suc (items_length (suc place) xs)
 pub no_place_decides : (xs : List ℤ) (c : ℕ) → c ≤ length xs → Decides (λ (t : Trace). t.ending) (walk_of xs) c → ⊥
 no_place_decides xs c few decides =
     let l : length (items_from 0 xs) ≡ length xs = items_length 0 xs in
-    let e = decides (trace (items_from 0 xs) (end.Fault (record { kind = kind.Overflow; stage = 0; origin = None }))) ((λ _. refl), (λ (short : length (items_from 0 xs) < c). absurd (omega arith))) in
+    let e = decides (trace (items_from 0 xs) (end.Fault (record { kind = kind.Overflow; stage = 0; origin = None })))
+    ((λ _. refl), (λ (short : length (items_from 0 xs) < c). absurd (omega arith))) in
     let z : true ≡ false = ap has_fault e in cc

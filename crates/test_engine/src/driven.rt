@@ -199,7 +199,7 @@ fn first_other<H: Wait>(rt: &H, alloc: Global) -> Result<Option<&'static str>, A
     Ok(None)
 }
 
-// No clause says that a job is begun when the jobs that it names have ended, or that its answer comes from a task.
+/// No clause says that a job is begun when the jobs that it names have ended, or that its answer comes from a task.
 #[test]
 fn answers_are_found_exactly_when_no_task_is_dropped(rt: HostRuntime) -> Result<(), Fail> {
     let found = first_other(&rt, rt.alloc())?;

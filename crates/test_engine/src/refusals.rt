@@ -60,7 +60,7 @@ fn pushes(alloc: Global) -> Option<bool> {
     }
 }
 
-// Several times, so that the list of pieces has to grow.
+/// Several times, so that the list of pieces has to grow.
 fn appends(alloc: Global) -> Option<bool> {
     let mut chunk = two(alloc, [1, 2])?;
     let mut is_refused = false;

@@ -5,7 +5,8 @@ use Rattle.trace.specs.Trace.{Trace, trace}
 
 -- the walk over 7, 8, 9
 abbrev pub three_numbers : Trace
-three_numbers = trace (record { origin = 0; value = pos 7 } ∷ record { origin = 1; value = pos 8 } ∷ record { origin = 2; value = pos 9 } ∷ []) end.Done
+three_numbers = trace (record { origin = 0; value = pos 7 } ∷ record { origin = 1; value = pos 8 } ∷ record
+    { origin = 2; value = pos 9 } ∷ []) end.Done
 
 -- a walk up to its first item
 abbrev pub first_item : Trace → Trace

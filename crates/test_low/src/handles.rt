@@ -6,7 +6,7 @@ use std::sync::atomic::AtomicU64;
 use std::sync::atomic::Ordering::SeqCst;
 use std::test::*;
 
-// Whether the owner gets the newest tasks and thieves the oldest, until none is left.
+/// Whether the owner gets the newest tasks and thieves the oldest, until none is left.
 fn both_ends_hand_out(owner: &mut Owner<u32>, thief: &mut Thief<u32>) -> bool {
     let mut is_right = owner.pop().is_none() && thief.steal().is_none();
     for task in 0..1000 {
@@ -46,7 +46,7 @@ fn an_inbox_hands_out_the_oldest(rt: HostRuntime) -> Result<(), Fail> {
     Ok(())
 }
 
-// A task that counts its drop.
+/// A task that counts its drop.
 struct Counted<'a>(&'a AtomicU64);
 
 impl Drop for Counted<'_> {
@@ -56,7 +56,7 @@ impl Drop for Counted<'_> {
     }
 }
 
-// Pushes 100 tasks, takes one out at each end, and drops the deque with the others in it.
+/// Pushes 100 tasks, takes one out at each end, and drops the deque with the others in it.
 fn drop_a_deque(alloc: Global, drops: &AtomicU64) -> Result<u64, Fail> {
     let mut owner = Owner::new(alloc)?;
     let mut thief = owner.thief()?;
@@ -68,7 +68,7 @@ fn drop_a_deque(alloc: Global, drops: &AtomicU64) -> Result<u64, Fail> {
     Ok(drops.load(SeqCst))
 }
 
-// Drops an inbox, which has one end to take from, and counts its tasks.
+/// Drops an inbox, which has one end to take from, and counts its tasks.
 fn drop_an_inbox<R: Wait>(rt: &R, alloc: Global, drops: &AtomicU64) -> Result<u64, Fail> {
     let (inbox, mut pass) = Inbox::new(alloc)?;
     for _ in 0..100 {

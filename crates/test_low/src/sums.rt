@@ -103,8 +103,8 @@ impl Work for Sum {
     }
 }
 
-// The sum of the numbers below 1,000 by this many workers, and whether each number was added once, each worker kept its
-// own `Idle`, and the `Idle` of worker 0 came back.
+/// The sum of the numbers below 1,000 by this many workers, and whether each number was added once, each worker kept
+/// its own `Idle`, and the `Idle` of worker 0 came back.
 fn sum_by<R: Threads + Wait + Sync>(
     rt: &R,
     alloc: Global,

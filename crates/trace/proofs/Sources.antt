@@ -1,5 +1,6 @@
 -- The items of a source, by their place.
-use Rattle.std.proofs.Common.{◌≡◌, ℕ, zero, suc, ◌+◌, ◌<◌, ℤ, pos, ◌+ℤ◌, List, [], ◌∷◌, length, get_or, refl, sym, ap, ◌∙◌, arith, add-zero}
+use Rattle.std.proofs.Common.{◌≡◌, ℕ, zero, suc, ◌+◌, ◌<◌, ℤ, pos, ◌+ℤ◌, List, [], ◌∷◌, length, get_or, refl, sym, ap}
+use Rattle.std.proofs.Common.{◌∙◌, arith, add-zero}
 use Rattle.std.proofs.lemmas.Int.{ints}
 use Rattle.lambda_values.specs.declared.item.Item.{Item}
 use Rattle.trace.specs.Cover.{counted, placed}
@@ -17,14 +18,16 @@ pub counted_at : (a : ℤ) (n k : ℕ) (z : ℤ) → k < n → get_or (counted a
 counted_at a zero k z within = absurd (omega (arith, within))
 counted_at a (suc n) zero z within = omega (arith, ints)
 counted_at a (suc n) (suc k) z within =
-    let later : get_or (counted (a +ℤ pos 1) n) k z ≡ (a +ℤ pos 1) +ℤ pos k = counted_at (a +ℤ pos 1) n k z (omega arith) in
+    let later : get_or (counted (a +ℤ pos 1) n) k z ≡ (a +ℤ pos 1) +ℤ pos k =
+    counted_at (a +ℤ pos 1) n k z (omega arith) in
     later ∙ omega (arith, ints)
 
 abbrev item_at : ℕ → ℤ → Item
 item_at j v = record { origin = j; value = v }
 
 -- the item at a place of a source
-pub placed_at : (i : ℕ) (vs : List ℤ) (k : ℕ) (d : Item) (z : ℤ) → k < length vs → get_or (placed i vs) k d ≡ record { origin = i + k; value = get_or vs k z }
+pub placed_at : (i : ℕ) (vs : List ℤ) (k : ℕ) (d : Item) (z : ℤ) → k < length vs
+    → get_or (placed i vs) k d ≡ record { origin = i + k; value = get_or vs k z }
 placed_at i [] k d z within = absurd (omega (arith, within))
 placed_at i (v ∷ vs) zero d z within = ap (λ (j : ℕ). item_at j v) (sym (add-zero i))
 placed_at i (v ∷ vs) (suc k) d z within =

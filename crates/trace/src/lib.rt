@@ -9,6 +9,10 @@
 //! the items of sources.
 //! Not promised: that memory for an item is there.
 //! The stages are `map`, `filter` and `flatMap` of `LongStream` (Java SE 17, `java.util.stream`).
+//!
+//! Tested: `walks.rt` of `test_completers`; `lists.rt`, `refusals.rt`, `reports.rt`, `shown.rt` of `test_engine`;
+//! `batches.rt`, `calls.rt`, `full_sinks.rt`, `random.rt`, `splits.rt`, `values.rt`, `walks.rt`, `words.rt` of
+//! `test_low`; runs of the programs in `tests`.
 #![tactic(auto)]
 
 mod chunk;

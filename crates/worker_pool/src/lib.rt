@@ -7,6 +7,9 @@
 //! Begin with `work.rt`, then `worker.rt`; docs/workers.md says what a worker does and what wakes it.
 //! Not promised: that the call returns, that a thread starts, or that each task is run (tests show that).
 //! Java SE 17: `ForkJoinPool`, whose caller helps.
+//!
+//! Tested: `driven.rt`, `gates.rt`, `lists.rt`, `runs.rt` of `test_engine`; `held_leaves.rt`, `small_works.rt`,
+//! `sums.rt` of `test_low`; runs of the programs in `tests`.
 #![tactic(auto)]
 
 mod door;

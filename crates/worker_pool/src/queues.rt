@@ -86,7 +86,7 @@ impl<'a, T: Drop> Spawn<T> for Queues<'a, T> {
 }
 
 impl<'a, T: Drop> TaskFinder<T> for Queues<'a, T> {
-    // The newest task of its own, then the oldest of another worker, then the oldest of the inbox.
+    /// The newest task of its own, then the oldest of another worker, then the oldest of the inbox.
     fn find<R: Wait>(&mut self, rt: &R) -> Option<T>
         ensures none { IfNone result (SameCalls self.old self.new) }
     {
@@ -113,7 +113,7 @@ impl<'a, T: Drop> TaskFinder<T> for Queues<'a, T> {
     }
 }
 
-// As many deques as are wanted and can be made.
+/// As many deques as are wanted and can be made.
 fn owners<T: Drop>(alloc: Global, workers: usize) -> Vec<Owner<T>> {
     let mut owners = Vec::new(alloc);
     for _ in 0..workers {
@@ -127,7 +127,7 @@ fn owners<T: Drop>(alloc: Global, workers: usize) -> Vec<Owner<T>> {
     owners
 }
 
-// Thieves of the deques of all other workers, the next one first.
+/// Thieves of the deques of all other workers, the next one first.
 fn thieves<T: Drop>(alloc: Global, owners: &[Owner<T>], worker: usize) -> Vec<Thief<T>> {
     let mut thieves = Vec::new(alloc);
     let (before, from) = owners.split_at(worker.min(owners.len()));
@@ -142,7 +142,7 @@ fn thieves<T: Drop>(alloc: Global, owners: &[Owner<T>], worker: usize) -> Vec<Th
     thieves
 }
 
-// The queues of `workers` workers, or of fewer if memory is refused, without deques of their own.
+/// The queues of `workers` workers, or of fewer if memory is refused, without deques of their own.
 fn shared_queues<'a, T: Drop>(
     alloc: Global,
     owners: &[Owner<T>],

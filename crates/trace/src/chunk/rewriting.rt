@@ -4,7 +4,7 @@ ghost use Rattle.std.specs.Prelude.{◌≡◌, ◌≢◌, [], ◌++◌, All, Lis
 ghost use Rattle.trace.specs.Trace.{trace};
 ghost use Rattle.lambda_values.specs.declared.item.Item.{Item};
 
-use super::Chunk;
+use crate::chunk::Chunk;
 use lambda_values::Item;
 
 /// A pass that changes items where they are stored.

@@ -6,8 +6,8 @@ ghost use Rattle.trace.specs.Stops.{stop_at, kept_before, kept_from};
 ghost use Rattle.trace.specs.declared.item.End.{End};
 ghost use Rattle.lambda_values.specs.declared.item.Item.{Item};
 
-use super::Chunk;
-use super::shortening::{keep_back, keep_front};
+use crate::chunk::Chunk;
+use crate::chunk::shortening::{keep_back, keep_front};
 use crate::item::End;
 use lambda_values::Item;
 

@@ -5,7 +5,7 @@ ghost use Rattle.std.specs.Prelude.{All, IfNone, IfSome, MatchOption, drop, flat
 ghost use Rattle.trace.specs.Trace.{trace};
 ghost use Rattle.trace.specs.Cuts.{IsCut, IsInside};
 
-use super::Chunk;
+use crate::chunk::Chunk;
 use crate::item::End;
 use lambda_values::Item;
 

@@ -12,7 +12,9 @@ invariant-loop-i l =
       yes_within : l.y ≤ l.ones.reached.live;
       no_within : l.n ≤ l.others.reached.live;
       values : (f : ℕ → Result ℤ FaultKind)
-          → Reaches (λ j. f (slice_index (wanted true l.flags l.live) j)) (at l.ones.values.now) (length (wanted true l.flags l.live)) l.ones.reached
-          → Reaches (λ j. f (slice_index (wanted false l.flags l.live) j)) (at l.others.values.now) (length (wanted false l.flags l.live)) l.others.reached
+          → Reaches (λ j. f (slice_index (wanted true l.flags l.live) j)) (at l.ones.values.now)
+          (length (wanted true l.flags l.live)) l.ones.reached
+          → Reaches (λ j. f (slice_index (wanted false l.flags l.live) j)) (at l.others.values.now)
+          (length (wanted false l.flags l.live)) l.others.reached
           → (k : ℕ) → k < l.i → f k ≡ Ok (at l.out k);
     }

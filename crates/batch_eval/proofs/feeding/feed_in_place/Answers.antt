@@ -22,12 +22,18 @@ returns-then-is_empty-clause-fed g c = λ xs took.
 pub invariant_of-tested-then-map_lanes : goal.invariant_of-tested-then-map_lanes
 invariant_of-tested-then-map_lanes g c =
     let i = c.lanes-images.result in
-    record { each_has_one = sym (length_lanes (length i.values.now) (item_at i.start i.places.now i.values.now)) ∙ ap length c.lanes-images.ensures ∙ c.if-map_lanes.ensures.count refl }
+    record {
+      each_has_one = sym (length_lanes (length i.values.now) (item_at i.start i.places.now i.values.now))
+          ∙ ap length c.lanes-images.ensures ∙ c.if-map_lanes.ensures.count refl;
+    }
 
 pub returns-then-map_lanes-clause-fed : goal.returns-then-map_lanes-clause-fed
 returns-then-map_lanes-clause-fed g c = λ xs took.
     let split = c.in-Some.ensures in
     let later = c.in-Some.later in
-    let images : AreImages later (laid c.args.lanes) (laid c.lanes-images.result) = subst (λ (ys : List Item). AreImages later (laid c.args.lanes) ys) (sym c.lanes-images.ensures) (c.if-map_lanes.ensures.images refl) in
-    let fed = rw (split.first, split.env, add-one) at (c.give_passing-then-map_lanes.ensures.fed later images xs took) in
+    let images : AreImages later (laid c.args.lanes) (laid c.lanes-images.result) =
+    subst (λ (ys : List Item). AreImages later (laid c.args.lanes) ys) (sym c.lanes-images.ensures)
+    (c.if-map_lanes.ensures.images refl) in
+    let fed = rw (split.first, split.env, add-one) at
+    (c.give_passing-then-map_lanes.ensures.fed later images xs took) in
     rw (split.stages, c.in-Filter.is) fed

@@ -19,7 +19,9 @@ invariant-loop-position g l =
       few : l.size ≤ 1024;
       room : FitsStages (stages_of l.line.stages.now) (length l.space.room.items);
       wants : g.S.LongSink.flow l.sink ≡ flow.More;
-      fed : (xs : List Item) → g.S.LongSink.has_taken l.initial.sink xs → IsFed g.S.LongSink.has_taken xs (piped l.line (trace (take l.position (batch_items l.items)) end.Done)) (Ok fed.More) l.sink;
+      fed : (xs : List Item) → g.S.LongSink.has_taken l.initial.sink xs
+          → IsFed g.S.LongSink.has_taken xs (piped l.line (trace (take l.position (batch_items l.items)) end.Done))
+          (Ok fed.More) l.sink;
     }
 
 abbrev pub decreases-loop-position : goal.decreases-loop-position

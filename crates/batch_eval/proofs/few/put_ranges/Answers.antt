@@ -17,7 +17,12 @@ list_items-requires-clause-within g c =
 pub list_items-requires-clause-bound : goal.list_items-requires-clause-bound
 list_items-requires-clause-bound g c =
     let run = c.in-Some.run' in
-    omega (arith, length-at_place c.origin_of.result (run_values run), length-counted run.first run.count, c.if-run-next.false)
+    omega (
+      arith,
+      length-at_place c.origin_of.result (run_values run),
+      length-counted run.first run.count,
+      c.if-run-next.false,
+    )
 
 pub loop-items-preserved : goal.loop-items-preserved
 loop-items-preserved g c =
@@ -36,4 +41,10 @@ loop-items-preserved g c =
     let o = c.origin_of.result in
     let new : ℕ → Item = item_at None c.list_items.new.origins c.list_items.new.values in
     let here = rw (p, q) at (c.requires.kind i) ∙ c.in-Some.ensures in
-    put_more inner rs c.args.from (origin_at c.args.places.start c.args.places.listed.now) (lanes c.args.first (item_at None c.args.origins.now c.args.values.now)) n next size o vs (item_at None c.loop-items.origins c.loop-items.values) new here c.origin_of.ensures (items_lanes (at_place o vs) size (λ k. new (next + k)) (sym (length-at_place o vs ∙ length-counted run.first size)) c.list_items.ensures.items) c.list_items.ensures.before (omega (arith, c.if-run-next.false, c.loop-items.invariant.within)) c.loop-items.invariant
+    put_more inner rs c.args.from (origin_at c.args.places.start c.args.places.listed.now)
+    (lanes c.args.first (item_at None c.args.origins.now c.args.values.now)) n next size o vs
+    (item_at None c.loop-items.origins c.loop-items.values) new here c.origin_of.ensures
+    (items_lanes (at_place o vs) size (λ k. new (next + k))
+    (sym (length-at_place o vs ∙ length-counted run.first size)) c.list_items.ensures.items)
+    c.list_items.ensures.before (omega (arith, c.if-run-next.false, c.loop-items.invariant.within))
+    c.loop-items.invariant

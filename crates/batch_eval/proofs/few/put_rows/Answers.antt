@@ -24,5 +24,11 @@ loop-item-preserved g c =
     let before = lanes c.args.first (item_at None c.args.origins.now c.args.values.now) in
     let on : next + c.args.operands ≡ c.args.first + (n + 1) * c.args.operands = grind (arith) in
     let width = ap (λ (m : ℕ). (1024 - c.args.first) / m) c.known-width.ensures in
-    let space = space_more c.args.operands (1024 - c.args.first) n c.min-items.result c.requires.some (omega arith) (omega (arith, width)) in
-    subst (λ (m : ℕ). ArePut inner rs c.args.from place before (n + 1) m new) on (put_more inner rs c.args.from place before n next c.args.operands o (row rs lane c.args.operands) (item_at None c.loop-item.origins c.loop-item.values) new (c.requires.kind lane) c.origin_of-origin.ensures (row_lanes o rs lane c.args.operands ∙ lanes_same c.args.operands held (λ k. new (next + k)) (λ k below. sym (items k below))) earlier (omega (arith, space, c.requires.first)) c.loop-item.invariant)
+    let space = space_more c.args.operands (1024 - c.args.first) n c.min-items.result c.requires.some (omega arith)
+    (omega (arith, width)) in
+    subst (λ (m : ℕ). ArePut inner rs c.args.from place before (n + 1) m new) on
+    (put_more inner rs c.args.from place before n next c.args.operands o (row rs lane c.args.operands)
+    (item_at None c.loop-item.origins c.loop-item.values) new (c.requires.kind lane) c.origin_of-origin.ensures
+    (row_lanes o rs lane c.args.operands
+    ∙ lanes_same c.args.operands held (λ k. new (next + k)) (λ k below. sym (items k below))) earlier
+    (omega (arith, space, c.requires.first)) c.loop-item.invariant)

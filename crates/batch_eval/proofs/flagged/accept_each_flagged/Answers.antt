@@ -25,11 +25,14 @@ loop-lane-preserved g c = record {
             let set : holds l.set (at l.flags.now n) ≡ true = sym flag ∙ w.if-holds.true in
             let more = w.in_ok-accept.ensures.ok (xs ++ before) so_far in
             let here = subst (λ (x : Item). h w.accept.new.self ((xs ++ before) ++ x ∷ [])) w.item.ensures more in
-            let joined = append_assoc xs before (item_at l.start l.origins.now l.values.now n ∷ []) ∙ ap (λ (ys : List Item). xs ++ ys) (sym (front_set (holds l.set) l.start l.origins.now l.values.now l.flags.now n set)) in
+            let joined = append_assoc xs before (item_at l.start l.origins.now l.values.now n ∷ [])
+            ∙ ap (λ (ys : List Item). xs ++ ys)
+            (sym (front_set (holds l.set) l.start l.origins.now l.values.now l.flags.now n set)) in
             rw w.sink-is (subst (h w.accept.new.self) joined here)
         | else-holds w ↦
             let unset = sym flag ∙ w.if-holds.false in
-            let same = ap (λ (ys : List Item). xs ++ ys) (sym (front_unset (holds l.set) l.start l.origins.now l.values.now l.flags.now n unset)) in
+            let same = ap (λ (ys : List Item). xs ++ ys)
+            (sym (front_unset (holds l.set) l.start l.origins.now l.values.now l.flags.now n unset)) in
             rw w.sink-is (subst (h c.loop-lane.sink) same so_far)
       ];
 }
@@ -58,4 +61,5 @@ returns-in_err-accept-clause-fed g c = λ xs took.
     let within : n < length l.flags.now = c.loop-lane-test.true in
     let p = err_from_is_err_and c.from_residual.result c.from_residual.ensures.1 in
     let kept = c.in_err-accept.ensures.err (xs ++ before) (c.loop-lane.invariant.taken xs took) in
-    rw p.1 (flagged_refused (holds l.set) l.start l.origins.now l.values.now l.flags.now h xs n c.accept.new.self within set c.in_err-accept.field-0.0 kept)
+    rw p.1 (flagged_refused (holds l.set) l.start l.origins.now l.values.now l.flags.now h xs n c.accept.new.self within
+    set c.in_err-accept.field-0.0 kept)

@@ -9,5 +9,8 @@ abbrev pub invariant-loop-lane : goal.invariant-loop-lane
 invariant-loop-lane g l =
     record {
       wants : g.S.LongSink.flow l.sink ≡ flow.More;
-      taken : (xs : List Item) → g.S.LongSink.has_taken l.initial.sink xs → g.S.LongSink.has_taken l.sink (xs ++ front (holds l.lanes.set) l.lanes.start l.lanes.origins.now l.lanes.values.now l.lanes.flags.now l.lane);
+      taken : (xs : List Item) → g.S.LongSink.has_taken l.initial.sink xs
+          → g.S.LongSink.has_taken l.sink
+          (xs ++ front (holds l.lanes.set) l.lanes.start l.lanes.origins.now l.lanes.values.now l.lanes.flags.now
+          l.lane);
     }

@@ -16,4 +16,7 @@ returns-clause-values t c = λ k below.
     let size : length column ≡ 1024 = search rules in
     let x = lane_item c.args.inputs k in
     let env = c.args.inputs.env.now in
-    subst (λ (es : List LongExpr). each_value (exprs_of es) x env ≡ Ok (row (column ++ later) k (length es))) (sym split) (values_more (long_of c.in-Some.expr.now) (exprs_of c.in-Some.others.now) x env column later k (length c.in-Some.others.now) size (omega (arith, inside, c.eval_long-live.ensures.within, c.requires.lanes)) (c.eval_long-live.ensures.values k inside) (c.eval_each.ensures.values k below))
+    subst (λ (es : List LongExpr). each_value (exprs_of es) x env ≡ Ok (row (column ++ later) k (length es)))
+    (sym split) (values_more (long_of c.in-Some.expr.now) (exprs_of c.in-Some.others.now) x env column later k
+    (length c.in-Some.others.now) size (omega (arith, inside, c.eval_long-live.ensures.within, c.requires.lanes))
+    (c.eval_long-live.ensures.values k inside) (c.eval_each.ensures.values k below))

@@ -10,5 +10,7 @@ returns-clause-values c = λ k below.
     let size : length f ≡ 1024 = search rules in
     let inside : k < c.eval_long-live.result.live = omega (arith, below, c.eval_long.ensures.within) in
     let both = beside f t k size (omega (arith, inside, c.eval_long-live.ensures.within, c.requires.lanes)) in
-    let ok : ℤ → Result ℤ FaultKind = λ z. Ok z in
-    (c.eval_long-live.ensures.values k inside ∙ ap ok (sym both.0), c.eval_long.ensures.values k below ∙ ap ok (sym both.1))
+    let ok : ℤ → Result ℤ FaultKind = λ z. Ok z in (
+      c.eval_long-live.ensures.values k inside ∙ ap ok (sym both.0),
+      c.eval_long.ensures.values k below ∙ ap ok (sym both.1),
+    )

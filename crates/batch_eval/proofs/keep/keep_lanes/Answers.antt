@@ -1,4 +1,5 @@
-use Rattle.std.proofs.Common.{Bool, ◌≡◌, ℕ, ◌+◌, ◌<◌, ◌≤◌, ℤ, pos, length, slice_index, get_or, ◌∙◌, arith, rules, w64, to_z, of_z, subst}
+use Rattle.std.proofs.Common.{Bool, ◌≡◌, ℕ, ◌+◌, ◌<◌, ◌≤◌, ℤ, pos, length, slice_index, get_or, ◌∙◌, arith, rules, w64}
+use Rattle.std.proofs.Common.{to_z, of_z, subst}
 use Rattle.batch_eval.specs.Lanes.{at, is_set}
 use Rattle.batch_eval.specs.Batches.{origin_at, passing}
 use Rattle.batch_eval.proofs.KeptLaneLemmas.{kept_set, kept_unset, front_more, rest_more}
@@ -20,11 +21,16 @@ loop-i-preserved c =
     let flag : c.is_set.result ≡ is_set (at flags i) = search rules in
     let read : to_z w64 (of_z w64 old) ≡ old = search rules in
     let here : to_z w64 (of_z w64 old) ≡ xs i = read ∙ so_far.rest_values i (omega arith) in
-    let there : spot ≡ spots i = c.origin_of-place.ensures ∙ same_place c.args.start c.loop-i.origins c.args.origins.now i (so_far.rest_origins i (omega arith)) in
-    let values = front_more p xs c.loop-i.values kept i (to_z w64 (of_z w64 old)) (pos 0) c.is_set.result flag here (omega arith) so_far.count so_far.values in
-    let values_rest = rest_more p (at c.args.values.now) c.loop-i.values kept i (to_z w64 (of_z w64 old)) (pos 0) so_far.within so_far.rest_values in
-    let origins = front_more p spots c.loop-i.origins kept i spot 0 c.is_set.result flag there (omega arith) so_far.count so_far.origins in
-    let origins_rest = rest_more p (slice_index c.args.origins.now) c.loop-i.origins kept i spot 0 so_far.within so_far.rest_origins in
+    let there : spot ≡ spots i = c.origin_of-place.ensures
+    ∙ same_place c.args.start c.loop-i.origins c.args.origins.now i (so_far.rest_origins i (omega arith)) in
+    let values = front_more p xs c.loop-i.values kept i (to_z w64 (of_z w64 old)) (pos 0) c.is_set.result flag here
+    (omega arith) so_far.count so_far.values in
+    let values_rest = rest_more p (at c.args.values.now) c.loop-i.values kept i (to_z w64 (of_z w64 old)) (pos 0)
+    so_far.within so_far.rest_values in
+    let origins = front_more p spots c.loop-i.origins kept i spot 0 c.is_set.result flag there (omega arith)
+    so_far.count so_far.origins in
+    let origins_rest = rest_more p (slice_index c.args.origins.now) c.loop-i.origins kept i spot 0 so_far.within
+    so_far.rest_origins in
     let count : c.if-is_set.kept ≡ length (passing flags (i + 1)) = elim c.if-is_set.branch [
       | then-is_set w ↦ w.kept-is ∙ kept_set p i kept c.is_set.result flag w.if-is_set.true so_far.count
       | else-is_set w ↦ w.kept-is ∙ kept_unset p i kept c.is_set.result flag w.if-is_set.false so_far.count

@@ -9,7 +9,8 @@ invariant-loop-i l =
       count : l.kept ≡ length (passing l.flags l.i);
       within : l.kept ≤ l.i;
       values : (j : ℕ) → j < l.kept → at l.values j ≡ at l.fn.values (slice_index (passing l.flags l.i) j);
-      origins : (j : ℕ) → j < l.kept → slice_index l.origins j ≡ origin_at l.start l.fn.origins (slice_index (passing l.flags l.i) j);
+      origins : (j : ℕ) → j < l.kept → slice_index l.origins j
+          ≡ origin_at l.start l.fn.origins (slice_index (passing l.flags l.i) j);
       rest_values : (k : ℕ) → l.i ≤ k → at l.values k ≡ at l.fn.values k;
       rest_origins : (k : ℕ) → l.i ≤ k → slice_index l.origins k ≡ slice_index l.fn.origins k;
     }

@@ -10,4 +10,5 @@ returns-in-Some c = λ z fits.
     let next : to_z w64 (of_z w64 c.in-Some.next) ≡ c.in-Some.next = search rules in
     let follows : c.in-Some.next ≡ c.args.number +ℤ pos 1 = search rules in
     let shift : to_z w64 (of_z w64 c.to_least.result) ≡ c.to_least.result = search rules in
-    ap (λ s. le_z (wrap (z -ℤ s)) (pos 9223372036854775806)) (shift ∙ c.to_least.ensures ∙ ap to_least next) ∙ holds_other z c.in-Some.next fits (search rules) c.args.number follows (search rules)
+    ap (λ s. le_z (wrap (z -ℤ s)) (pos 9223372036854775806)) (shift ∙ c.to_least.ensures ∙ ap to_least next)
+    ∙ holds_other z c.in-Some.next fits (search rules) c.args.number follows (search rules)

@@ -13,4 +13,5 @@ returns c =
     let fits : FitsSigned w64 s = search rules in
     let down : s ≡ rounded_down c.args.x (pos (power c.args.exponent)) = search rules in
     let is : k ≡ low_six_bits c.args.exponent = search rules in
-    shift_left_wraps s k small fits c.distance.ensures.bound ∙ ap (λ k. wrap (s *ℤ pos (2 ^ k))) is ∙ ap (λ z. wrap (z *ℤ pos (power c.args.exponent))) down
+    shift_left_wraps s k small fits c.distance.ensures.bound ∙ ap (λ k. wrap (s *ℤ pos (2 ^ k))) is
+    ∙ ap (λ z. wrap (z *ℤ pos (power c.args.exponent))) down

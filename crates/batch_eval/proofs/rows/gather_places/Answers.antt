@@ -16,8 +16,10 @@ loop-i-preserved c =
     let v = to_z w64 (of_z w64 c.signed.result) in
     let flag : c.is_wanted.result ≡ wants c.args.kind (at c.args.flags.now i) = search rules in
     let same : v ≡ c.signed.result = search rules in
-    let here : cast_unsigned w64 v ≡ row_at c.args.rows i = ap (cast_unsigned w64) same ∙ c.signed.ensures ∙ c.at.ensures in
-    let values = front_more_by (cast_unsigned w64) p (row_at c.args.rows) c.loop-i.out kept i v (pos 0) c.is_wanted.result flag here (omega arith) so_far.count so_far.values in
+    let here : cast_unsigned w64 v ≡ row_at c.args.rows i =
+    ap (cast_unsigned w64) same ∙ c.signed.ensures ∙ c.at.ensures in
+    let values = front_more_by (cast_unsigned w64) p (row_at c.args.rows) c.loop-i.out kept i v (pos 0)
+    c.is_wanted.result flag here (omega arith) so_far.count so_far.values in
     let count : c.if-is_wanted.kept ≡ length (picked p (i + 1)) = elim c.if-is_wanted.branch [
       | then-is_wanted w ↦ w.kept-is ∙ kept_set p i kept c.is_wanted.result flag w.if-is_wanted.true so_far.count
       | else-is_wanted w ↦ w.kept-is ∙ kept_unset p i kept c.is_wanted.result flag w.if-is_wanted.false so_far.count

@@ -10,5 +10,6 @@ invariant-loop-i l =
     record {
       count : l.kept ≡ length (wanted l.kind l.flags l.i);
       within : l.kept ≤ l.i;
-      values : (j : ℕ) → j < l.kept → cast_unsigned w64 (at l.out j) ≡ row_at l.rows (slice_index (wanted l.kind l.flags l.i) j);
+      values : (j : ℕ) → j < l.kept → cast_unsigned w64 (at l.out j)
+          ≡ row_at l.rows (slice_index (wanted l.kind l.flags l.i) j);
     }

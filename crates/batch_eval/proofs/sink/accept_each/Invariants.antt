@@ -7,5 +7,6 @@ abbrev pub invariant-loop-position : goal.invariant-loop-position
 invariant-loop-position g l =
     record {
       wants : g.S.LongSink.flow l.sink ≡ flow.More;
-      taken : (xs : List Item) → g.S.LongSink.has_taken l.initial.sink xs → g.S.LongSink.has_taken l.sink (xs ++ take l.position (g.I.SourceItems.items l.source));
+      taken : (xs : List Item) → g.S.LongSink.has_taken l.initial.sink xs
+          → g.S.LongSink.has_taken l.sink (xs ++ take l.position (g.I.SourceItems.items l.source));
     }

@@ -36,7 +36,10 @@ invariant-pour-loop-position g l =
       within : l.position ≤ l.count;
       room : FitsStages (stages_of l.line.stages.now) (length l.room);
       wants : g.S.LongSink.flow l.sink ≡ flow.More;
-      held : (xs whole : List Item) → Holds g.S.LongSink.has_taken l.line xs whole l.initial.pending.items l.initial.sink → Holds g.S.LongSink.has_taken l.line xs (whole ++ take l.position (at_place l.values.origin (run_or_listed l.values.run l.values.listed.now))) l.pending.items l.sink;
+      held : (xs whole : List Item) → Holds g.S.LongSink.has_taken l.line xs whole l.initial.pending.items
+          l.initial.sink → Holds g.S.LongSink.has_taken l.line xs
+          (whole ++ take l.position (at_place l.values.origin (run_or_listed l.values.run l.values.listed.now)))
+          l.pending.items l.sink;
     }
 
 abbrev pub invariant-feed_inner-loop-position : goal.invariant-feed_inner-loop-position
@@ -44,6 +47,10 @@ invariant-feed_inner-loop-position g l =
     record {
       room : FitsStages (stages_of l.stage.later.stages.now) (length l.room);
       wants : g.S.LongSink.flow l.sink ≡ flow.More;
-      done : (each (of_item l.stage.number (flat_map (inner_of l.stage.inner.now)) l.stage.later.env.now) (take l.position l.batch.items) end.Done).ending ≡ end.Done;
-      held : (xs : List Item) → g.S.LongSink.has_taken l.initial.sink xs → Holds g.S.LongSink.has_taken l.stage.later xs (each (of_item l.stage.number (flat_map (inner_of l.stage.inner.now)) l.stage.later.env.now) (take l.position l.batch.items) end.Done).items l.pending.items l.sink;
+      done : (each (of_item l.stage.number (flat_map (inner_of l.stage.inner.now)) l.stage.later.env.now)
+          (take l.position l.batch.items) end.Done).ending ≡ end.Done;
+      held : (xs : List Item) → g.S.LongSink.has_taken l.initial.sink xs
+          → Holds g.S.LongSink.has_taken l.stage.later xs
+          (each (of_item l.stage.number (flat_map (inner_of l.stage.inner.now)) l.stage.later.env.now)
+          (take l.position l.batch.items) end.Done).items l.pending.items l.sink;
     }

@@ -15,14 +15,19 @@ returns-in-More-clause-fed g c = λ xs took.
     let batch = c.args.batch.now in
     let none : List AbstractStage = [] in
     let env : Numbers = nothing_named in
-    rw (c.fed_by.ensures, c.end.ensures) (IsFed_end g.S.LongSink.has_taken 0 none env xs batch.items batch.ending c.accept_lanes.new.self (rw c.lanes.ensures at (more xs took)))
+    rw (c.fed_by.ensures, c.end.ensures)
+    (IsFed_end g.S.LongSink.has_taken 0 none env xs batch.items batch.ending c.accept_lanes.new.self
+    (rw c.lanes.ensures at (more xs took)))
 
 pub returns-in_default-clause-fed : goal.returns-in_default-clause-fed
 returns-in_default-clause-fed g c = λ xs took.
     let batch = c.args.batch.now in
     let none : List AbstractStage = [] in
     let env : Numbers = nothing_named in
-    IsFed_cut g.S.LongSink.has_taken 0 none env xs batch.items batch.ending (Ok c.in_ok-stopped.stopped) c.accept_lanes.new.self (λ e. c.in_default.not-More cc) (subst (λ (ys : List Item). IsFed g.S.LongSink.has_taken xs (trace ys end.Done) (Ok c.in_ok-stopped.stopped) c.accept_lanes.new.self) c.lanes.ensures (c.in_ok-stopped.ensures.fed xs took))
+    IsFed_cut g.S.LongSink.has_taken 0 none env xs batch.items batch.ending (Ok c.in_ok-stopped.stopped)
+    c.accept_lanes.new.self (λ e. c.in_default.not-More cc)
+    (subst (λ (ys : List Item). IsFed g.S.LongSink.has_taken xs (trace ys end.Done) (Ok c.in_ok-stopped.stopped)
+    c.accept_lanes.new.self) c.lanes.ensures (c.in_ok-stopped.ensures.fed xs took))
 
 pub returns-in_err-stopped-clause-fed : goal.returns-in_err-stopped-clause-fed
 returns-in_err-stopped-clause-fed g c = λ xs took.
@@ -30,4 +35,5 @@ returns-in_err-stopped-clause-fed g c = λ xs took.
     let batch = c.args.batch.now in
     let none : List AbstractStage = [] in
     let env : Numbers = nothing_named in
-    rw p.1 (IsFed_cut g.S.LongSink.has_taken 0 none env xs batch.items batch.ending (Err c.in_err-stopped.field-0.0) c.accept_lanes.new.self (λ e. cc) (rw c.lanes.ensures at (c.in_err-stopped.ensures.fed xs took)))
+    rw p.1 (IsFed_cut g.S.LongSink.has_taken 0 none env xs batch.items batch.ending (Err c.in_err-stopped.field-0.0)
+    c.accept_lanes.new.self (λ e. cc) (rw c.lanes.ensures at (c.in_err-stopped.ensures.fed xs took)))

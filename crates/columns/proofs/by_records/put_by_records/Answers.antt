@@ -13,6 +13,8 @@ returns-clause-put g c =
     let begun = c.in_ok-extend_from_slice.ensures.items ∙ ap (λ l. l ++ bytes) c.in_ok-text.ensures.items in
     let is : strip_bom c.deref.result.now ≡ bytes ++ gone =
     ap strip_bom (c.deref.ensures.value ∙ grown ∙ ap (λ l. l ++ gone) begun) ∙ strip_bom-mark (bytes ++ gone) in
-    IsPutBy-records c.args.layout.now (g.R.CountedRead.remaining c.args.reader.now) (g.R.CountedRead.remaining c.read_on.new.reader) bytes gone (strip_bom c.deref.result.now)
+    IsPutBy-records c.args.layout.now (g.R.CountedRead.remaining c.args.reader.now)
+    (g.R.CountedRead.remaining c.read_on.new.reader) bytes gone (strip_bom c.deref.result.now)
     (map named c.args.columns.now) (map named c.put_records.new.columns) c.put_records.result
-    (omega (arith, length-map c.args.columns.now named, c.requires.fits.some_column)) consumed is c.put_records.ensures.put
+    (omega (arith, length-map c.args.columns.now named, c.requires.fits.some_column)) consumed is
+    c.put_records.ensures.put

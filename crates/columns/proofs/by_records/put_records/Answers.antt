@@ -10,6 +10,8 @@ pub returns-clause-put : goal.returns-clause-put
 returns-clause-put c rows all =
     let s = c.args.layout.now.separator in
     let text = strip_bom c.args.text.now in
-    let is : records_in s c.args.text.now ≡ rows = AreRowsIn-same s text (records_in s c.args.text.now) rows (rows_of_text s text) all in
-    let reading : IsReading c.reader_of-reader.result rows = subst (IsReading c.reader_of-reader.result) is c.reader_of-reader.ensures in
+    let is : records_in s c.args.text.now ≡ rows =
+    AreRowsIn-same s text (records_in s c.args.text.now) rows (rows_of_text s text) all in
+    let reading : IsReading c.reader_of-reader.result rows =
+    subst (IsReading c.reader_of-reader.result) is c.reader_of-reader.ensures in
     rw (sym c.row_count-number.ensures.rows) (c.read_rows.ensures.rows rows reading)

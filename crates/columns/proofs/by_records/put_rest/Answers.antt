@@ -13,12 +13,16 @@ returns-then-is_empty-clause-put c =
 
 pub returns-then-not-has_mark-clause-put : goal.returns-then-not-has_mark-clause-put
 returns-then-not-has_mark-clause-put c =
-    let same : strip_bom c.args.bytes.now ≡ c.args.bytes.now = sym (no_mark c.args.bytes.now (sym c.if-not-has_mark.ensures.is)) in
-    subst (λ text. ArePutUnder c.args.layout.now text (map named c.args.columns.now) c.put_records.result (map named c.put_records.new.columns)) same c.put_records.ensures.put
+    let same : strip_bom c.args.bytes.now ≡ c.args.bytes.now =
+    sym (no_mark c.args.bytes.now (sym c.if-not-has_mark.ensures.is)) in
+    subst (λ text. ArePutUnder c.args.layout.now text (map named c.args.columns.now) c.put_records.result
+    (map named c.put_records.new.columns)) same c.put_records.ensures.put
 
 pub returns-clause-put : goal.returns-clause-put
 returns-clause-put c =
     let bytes = c.args.bytes.now in
     let begun = c.in_ok-extend_from_slice.ensures.items ∙ ap (λ l. l ++ bytes) c.in_ok-text.ensures.items in
-    let same : strip_bom c.deref.result.now ≡ bytes = ap strip_bom (c.deref.ensures.value ∙ begun) ∙ strip_bom-mark bytes in
-    subst (λ text. ArePutUnder c.args.layout.now text (map named c.args.columns.now) c.put_records-2.result (map named c.put_records-2.new.columns)) same c.put_records-2.ensures.put
+    let same : strip_bom c.deref.result.now ≡ bytes =
+    ap strip_bom (c.deref.ensures.value ∙ begun) ∙ strip_bom-mark bytes in
+    subst (λ text. ArePutUnder c.args.layout.now text (map named c.args.columns.now) c.put_records-2.result
+    (map named c.put_records-2.new.columns)) same c.put_records-2.ensures.put

@@ -6,7 +6,8 @@ use Rattle.columns.proofs.cell.read_cell.Goals as goal
 pub returns-clause-value : goal.returns-clause-value
 unfolding number_of
 returns-clause-value c =
-    c.signed.ensures ∙ ap signed_number (c.without_last_blanks.ensures ∙ ap (λ r. reverse (drop_blanks (reverse r))) c.without_first_blanks.ensures)
+    c.signed.ensures ∙ ap signed_number (c.without_last_blanks.ensures
+    ∙ ap (λ r. reverse (drop_blanks (reverse r))) c.without_first_blanks.ensures)
 
 pub returns-clause-spells : goal.returns-clause-spells
 returns-clause-spells c = SpellsCell-if_some c.args.cell.now c.signed.result (returns-clause-value c)

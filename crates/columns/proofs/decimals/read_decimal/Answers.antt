@@ -8,7 +8,8 @@ pub returns-clause-value : goal.returns-clause-value
 unfolding decimal_of
 returns-clause-value c =
     c.signed.ensures
-    ∙ ap (signed_with c.args.places) (c.without_last_blanks.ensures ∙ ap (λ r. reverse (drop_blanks (reverse r))) c.without_first_blanks.ensures)
+    ∙ ap (signed_with c.args.places) (c.without_last_blanks.ensures
+    ∙ ap (λ r. reverse (drop_blanks (reverse r))) c.without_first_blanks.ensures)
 
 pub returns-clause-spells : goal.returns-clause-spells
 returns-clause-spells c = SpellsDecimal-if_some c.args.places c.args.cell.now c.signed.result (returns-clause-value c)

@@ -14,7 +14,8 @@ returns-in-Some c =
     let some : (c.args.places == 0) ≡ false = search (rules, nat_tests) in
     let blank : list_all is_blank c.args.cell.now ≡ true = search rules in
     let fits : FitsSigned w64 c.in-Some.number = search rules in
-    rw (c.in-Some.is, blank) (c.with_zeros.ensures ∙ ap (λ k. decimal_of c.args.places (signed_decimal k)) (to_z-of_z w64 c.in-Some.number fits)
+    rw (c.in-Some.is, blank) (c.with_zeros.ensures
+    ∙ ap (λ k. decimal_of c.args.places (signed_decimal k)) (to_z-of_z w64 c.in-Some.number fits)
     ∙ sym (number_scaled c.args.places (signed_decimal c.in-Some.number) some))
 
 pub returns-in_default : goal.returns-in_default

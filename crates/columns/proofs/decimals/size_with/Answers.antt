@@ -8,16 +8,20 @@ returns-in_err-size-clause-none c =
 pub returns-in_err-size-2-clause-none : goal.returns-in_err-size-2-clause-none
 returns-in_err-size-2-clause-none c =
     let whole = c.in_ok-size.ensures.digits in
-    rw c.from_residual-in_err-size-2.ensures (bad_fraction c.args.whole.now c.args.fraction.now c.args.count c.in_ok-size.size whole.1 c.in_err-size-2.ensures.none)
+    rw c.from_residual-in_err-size-2.ensures
+    (bad_fraction c.args.whole.now c.args.fraction.now c.args.count c.in_ok-size.size whole.1
+    c.in_err-size-2.ensures.none)
 
 pub returns-clause-digits : goal.returns-clause-digits
 returns-clause-digits c =
     let whole = c.in_ok-size.ensures.digits in
     let fraction = c.in_ok-size-2.ensures.digits in
-    size_some c.args.whole.now c.args.fraction.now c.args.count c.in_ok-size.size c.in_ok-size-2.size c.times_ten.result whole.1 whole.0 fraction.1 fraction.0 c.times_ten.ensures.value
+    size_some c.args.whole.now c.args.fraction.now c.args.count c.in_ok-size.size c.in_ok-size-2.size c.times_ten.result
+    whole.1 whole.0 fraction.1 fraction.0 c.times_ten.ensures.value
 
 pub returns-clause-none : goal.returns-clause-none
 returns-clause-none c =
     let whole = c.in_ok-size.ensures.digits in
     let fraction = c.in_ok-size-2.ensures.digits in
-    size_none c.args.whole.now c.args.fraction.now c.args.count c.in_ok-size.size c.in_ok-size-2.size c.times_ten.result whole.1 fraction.1 c.times_ten.ensures.none
+    size_none c.args.whole.now c.args.fraction.now c.args.count c.in_ok-size.size c.in_ok-size-2.size c.times_ten.result
+    whole.1 fraction.1 c.times_ten.ensures.none

@@ -8,9 +8,11 @@ loop-at-init c = ReadAsFar-none c.args.separator c.args.text.now
 pub returns-in-None-clause-first : goal.returns-in-None-clause-first
 returns-in-None-clause-first c =
     let (ends, between) = c.in-None.ensures.ends in
-    EndsFirst-stop c.args.separator c.args.text.now (state_of c.loop-at.place) c.loop-at.at c.loop-at-test.true ends between c.loop-at.invariant
+    EndsFirst-stop c.args.separator c.args.text.now (state_of c.loop-at.place) c.loop-at.at c.loop-at-test.true ends
+    between c.loop-at.invariant
 
 pub loop-at-preserved : goal.loop-at-preserved
 loop-at-preserved c =
     let (goes, is) = c.in-Some.ensures.goes in
-    ReadAsFar-more c.args.separator c.args.text.now (state_of c.loop-at.place) (state_of c.in-Some.next) c.loop-at.at c.loop-at-test.true goes is c.loop-at.invariant
+    ReadAsFar-more c.args.separator c.args.text.now (state_of c.loop-at.place) (state_of c.in-Some.next) c.loop-at.at
+    c.loop-at-test.true goes is c.loop-at.invariant

@@ -19,7 +19,8 @@ returns-clause-front c =
     let (rows, split, reading) = first_record s bytes _ _ _ found c.in-Ok-true.field-0-test in
     let header = c.in_ok-columns.ensures in
     let first = rw (c.without_mark.ensures, c.byte.ensures) at c.in_ok-end.ensures.first in
-    IsFront-header (form_of c.args.form.now) c.in_ok-columns.layout bytes _ (fields_of c.next_record.new.row) rows _ first split header.layout header.fits header.under
+    IsFront-header (form_of c.args.form.now) c.in_ok-columns.layout bytes _ (fields_of c.next_record.new.row) rows _
+    first split header.layout header.fits header.under
 
 pub returns-clause-fits : goal.returns-clause-fits
 returns-clause-fits c =
@@ -30,7 +31,9 @@ returns-clause-fits c =
     let is = c.in_ok-columns.ensures.layout in
     let columns = c.in_ok-columns.columns.items in
     let long : length header ≡ length looks = sym (ap length is.looks ∙ length-map header (looks_of form)) in
-    let wide : look_count looks ≡ length columns = sym (length_of_header columns (kept_names looks header) c.in_ok-columns.ensures.under ∙ length-kept_names looks header long) in
+    let wide : look_count looks ≡ length columns =
+    sym (length_of_header columns (kept_names looks header) c.in_ok-columns.ensures.under
+    ∙ length-kept_names looks header long) in
     let some : 0 < length columns = search rules in
     record {
       separator = rw is.separator (separates c.args.form.now.separator);
@@ -41,7 +44,8 @@ returns-clause-fits c =
 
 pub returns-clause-empty : goal.returns-clause-empty
 returns-clause-empty c =
-    rw c.in_ok-columns.ensures.under (HaveRows-under (kept_names (looks_in c.in_ok-columns.layout) (fields_of c.next_record.new.row)))
+    rw c.in_ok-columns.ensures.under (HaveRows-under
+    (kept_names (looks_in c.in_ok-columns.layout) (fields_of c.next_record.new.row)))
 
 pub header_end-requires : goal.header_end-requires
 header_end-requires c = rw c.byte.ensures (separates c.args.form.now.separator)

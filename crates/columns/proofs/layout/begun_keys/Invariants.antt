@@ -4,4 +4,5 @@ use Rattle.columns.proofs.layout.begun_keys.Given as goal
 
 -- the keys so far that begin with the name
 abbrev pub invariant-loop-key : goal.invariant-loop-key
-invariant-loop-key l = map (λ key. key.now) l.begun.items ≡ begun_by l.name (map (λ key. key.items) (take l.key-index l.keys))
+invariant-loop-key l = map (λ key. key.now) l.begun.items
+    ≡ begun_by l.name (map (λ key. key.items) (take l.key-index l.keys))

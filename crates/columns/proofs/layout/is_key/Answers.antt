@@ -1,7 +1,8 @@
 use Rattle.std.proofs.Common.{◌≡◌, ◌∙◌, ◌+◌, ◌==◌, arith, false, get_or, inl, inr, length, rules, sym, true}
 use Rattle.std.proofs.lemmas.Bool.Decides.{nat_tests}
 use Rattle.columns.proofs.KeyLemmas.{key_differs, key_equal}
-use Rattle.columns.proofs.layout.is_key.Goals.{then-key-count-ne34-via-then-key-count-ne34, then-key-count-ne34-via-else-key-count-ne34+then-key-count-2}
+use Rattle.columns.proofs.layout.is_key.Goals.{then-key-count-ne34-via-then-key-count-ne34}
+use Rattle.columns.proofs.layout.is_key.Goals.{then-key-count-ne34-via-else-key-count-ne34+then-key-count-2}
 use Rattle.columns.proofs.layout.is_key.Goals as goal
 
 pub returns-then-key-count-ne34 : goal.returns-then-key-count-ne34

@@ -19,11 +19,16 @@ loop-name-preserved c =
     let within = slice_get_within fields at name there in
     let wanted = looks_of (form_of c.args.form.now) in
     let names : take (at + 1) fields ≡ take at fields ++ name ∷ [] =
-    take_more fields at [] within ∙ ap (λ n. take at fields ++ n ∷ []) (get_or_from_slice_get fields at name [] there) in
+    take_more fields at [] within ∙ ap (λ n. take at fields ++ n ∷ [])
+    (get_or_from_slice_get fields at name [] there) in
     let looks : map places_in c.push.new.self.items ≡ map wanted (take at fields) ++ wanted name ∷ [] =
     ap (map places_in) c.in_ok-push.ensures.items ∙ map_push places_in c.loop-name.looks.items c.in_ok-look_of.field-0
-    ∙ ap (λ l. l ++ places_in c.in_ok-look_of.field-0 ∷ []) so_far.2 ∙ ap (λ m. map wanted (take at fields) ++ m ∷ []) c.in_ok-look_of.ensures in
-    (ap (λ r. r.now) step.0, omega (arith, step.2, within), looks ∙ rw (step.2, names) (sym (map_push wanted (take at fields) name)))
+    ∙ ap (λ l. l ++ places_in c.in_ok-look_of.field-0 ∷ []) so_far.2
+    ∙ ap (λ m. map wanted (take at fields) ++ m ∷ []) c.in_ok-look_of.ensures in (
+      ap (λ r. r.now) step.0,
+      omega (arith, step.2, within),
+      looks ∙ rw (step.2, names) (sym (map_push wanted (take at fields) name)),
+    )
 
 pub returns : goal.returns
 returns c =

@@ -20,14 +20,20 @@ loop-places-preserved c =
     let begun = c.in_ok-begun.begun in
     let tests = bytes_eq (key_of c.args.name.now places) in
     let mapped : list_any (λ key. tests key.now) begun.items ≡ test places =
-    sym (list_any_mapped tests (λ key. key.now) begun.items) ∙ ap (list_any tests) c.in_ok-begun.ensures ∙ begun_enough c.args.name.now places keys in (
+    sym (list_any_mapped tests (λ key. key.now) begun.items) ∙ ap (list_any tests) c.in_ok-begun.ensures
+    ∙ begun_enough c.args.name.now places keys in (
       refl,
       elim c.if-is_named.branch [
         | then-is_named+in_ok-push w ↦
-            let yes : test places ≡ true = sym mapped ∙ ap (list_any (λ key. tests key.now)) (sym c.deref.ensures.value) ∙ sym w.if-is_named.ensures in
-            rw w.named-is (w.in_ok-push.ensures.items ∙ ap (λ l. l ++ places ∷ []) so_far ∙ sym (filter_more test all_places i true room yes))
+            let yes : test places ≡ true =
+            sym mapped ∙ ap (list_any (λ key. tests key.now)) (sym c.deref.ensures.value)
+            ∙ sym w.if-is_named.ensures in
+            rw w.named-is (w.in_ok-push.ensures.items ∙ ap (λ l. l ++ places ∷ []) so_far
+            ∙ sym (filter_more test all_places i true room yes))
         | else-is_named w ↦
-            let none_left : test places ≡ false = sym mapped ∙ ap (list_any (λ key. tests key.now)) (sym c.deref.ensures.value) ∙ sym w.if-is_named.ensures in
+            let none_left : test places ≡ false =
+            sym mapped ∙ ap (list_any (λ key. tests key.now)) (sym c.deref.ensures.value)
+            ∙ sym w.if-is_named.ensures in
             rw w.named-is (so_far ∙ sym (append-nil _) ∙ sym (filter_more test all_places i false room none_left))
       ],
     )

@@ -9,4 +9,5 @@ use Rattle.columns.proofs.layout.named_places.Given as goal
 abbrev pub invariant-loop-places : goal.invariant-loop-places
 invariant-loop-places l =
     (l.places-items ≡ all_places)
-    × (l.named.items ≡ filter (λ p. list_any (bytes_eq (key_of l.name p)) (map (λ key. key.items) l.keys)) (take l.places-index l.places-items))
+    × (l.named.items ≡ filter (λ p. list_any (bytes_eq (key_of l.name p)) (map (λ key. key.items) l.keys))
+    (take l.places-index l.places-items))

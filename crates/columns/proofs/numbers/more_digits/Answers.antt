@@ -9,5 +9,9 @@ loop-end-preserved c =
     let end = c.loop-end.end in
     let (low, all, is, small) = c.loop-end.invariant in
     let digit : is_ascii_digit (get_or text end 0) ≡ true = search rules in
-    let value = value_more text c.args.at end low c.loop-end-test.true in
-    (omega (arith, low), digits_more text c.args.at end low c.loop-end-test.true all digit, search (rules, value), search rules)
+    let value = value_more text c.args.at end low c.loop-end-test.true in (
+      omega (arith, low),
+      digits_more text c.args.at end low c.loop-end-test.true all digit,
+      search (rules, value),
+      search rules,
+    )

@@ -6,4 +6,5 @@ use Rattle.columns.proofs.pieces.put_column.Given as goal
 -- the cells of the pieces so far are put
 abbrev pub invariant-loop-piece : goal.invariant-loop-piece
 invariant-loop-piece l =
-    (l.column.is_whole ≡ false) × (named l.column ≡ with_pieces (named l.initial.column) (take l.piece-index l.pieces) l.place)
+    (l.column.is_whole ≡ false) × (named l.column
+    ≡ with_pieces (named l.initial.column) (take l.piece-index l.pieces) l.place)

@@ -12,7 +12,12 @@ pub loop-preserved : goal.loop-preserved
 loop-preserved g c =
     let (low, same, so_far) = c.loop.invariant in
     let columns = map named c.loop.columns in
-    let there : All (IsPieceThere c.args.layout.now c.args.text.now (length columns)) c.read_pieces.new.pieces = rw (length-map c.loop.columns named) c.read_pieces.ensures in
+    let there : All (IsPieceThere c.args.layout.now c.args.text.now (length columns)) c.read_pieces.new.pieces =
+    rw (length-map c.loop.columns named) c.read_pieces.ensures in
     let read = c.pieces_in_line-count.ensures.read c.args.layout.now columns there in
-    let put : map named c.put_pieces.new.columns ≡ append_pieces columns (take c.pieces_in_line-count.result.0 c.read_pieces.new.pieces) = search rules in
-    (c.pieces_in_line-count.ensures.within.1, search rules, AreReadIn-join _ _ _ _ _ _ _ _ _ so_far (rw (sym put) at read))
+    let put : map named c.put_pieces.new.columns
+    ≡ append_pieces columns (take c.pieces_in_line-count.result.0 c.read_pieces.new.pieces) = search rules in (
+      c.pieces_in_line-count.ensures.within.1,
+      search rules,
+      AreReadIn-join _ _ _ _ _ _ _ _ _ so_far (rw (sym put) at read),
+    )

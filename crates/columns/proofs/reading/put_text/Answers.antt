@@ -15,6 +15,13 @@ returns-clause-put c form f =
     let end = c.read_text_rows-end.result in
     let now = map named c.read_text_rows-end.new.columns in
     let width : length c.read_text_rows-end.new.columns ≡ length c.args.columns.now = search rules in
-    let some : 0 < length now = omega (arith, length-map c.read_text_rows-end.new.columns named, width, c.requires.fits.some_column) in
-    let put = subst (λ t. ArePutUnder l t now c.put_rest.result (map named c.put_rest.new.columns)) (take_rest text end) c.put_rest.ensures.put in
-    IsFront-put form l text (drop c.args.from text) (drop end text) (map named c.args.columns.now) now (map named c.put_rest.new.columns) c.put_rest.result some c.read_text_rows-end.ensures.read put f
+    let some : 0 < length now = omega (
+      arith,
+      length-map c.read_text_rows-end.new.columns named,
+      width,
+      c.requires.fits.some_column,
+    ) in
+    let put = subst (λ t. ArePutUnder l t now c.put_rest.result (map named c.put_rest.new.columns)) (take_rest text end)
+    c.put_rest.ensures.put in
+    IsFront-put form l text (drop c.args.from text) (drop end text) (map named c.args.columns.now) now
+    (map named c.put_rest.new.columns) c.put_rest.result some c.read_text_rows-end.ensures.read put f

@@ -12,4 +12,5 @@ returns-in-Ok-clause-gave c rows r =
     let read = c.in-Ok.ensures in
     let s = r.set_up in
     let record_read = read.reads s.untrimmed s.ready in
-    GaveNext-read _ _ c.in-Ok.found _ rows r record_read (IsSetUp-read _ _ c.in-Ok.found _ s record_read (read.ready s.untrimmed) read.flexible)
+    GaveNext-read _ _ c.in-Ok.found _ rows r record_read
+    (IsSetUp-read _ _ c.in-Ok.found _ s record_read (read.ready s.untrimmed) read.flexible)

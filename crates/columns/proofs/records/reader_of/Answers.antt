@@ -15,10 +15,12 @@ returns c =
     let set : Config → Config = λ k. record k { delimiter = s } in
     let config : reader_config c.from_reader.result ≡ config_of s =
     rw (c.flexible.ensures, c.has_headers.ensures, c.delimiter.ensures) at made.config ∙ ap set c.new.ensures.config in
-    let all : AreRecords (config_of s) st.StartRecord text (records_in s c.args.bytes.now) = AreRecords-records_from (config_of s) (length text + 1) st.StartRecord text (omega arith) in
+    let all : AreRecords (config_of s) st.StartRecord text (records_in s c.args.bytes.now) =
+    AreRecords-records_from (config_of s) (length text + 1) st.StartRecord text (omega arith) in
     record {
       set_up = record {
-        untrimmed = rw (c.flexible.ensures, c.has_headers.ensures, c.delimiter.ensures) at made.trim ∙ c.new.ensures.trim;
+        untrimmed = rw (c.flexible.ensures, c.has_headers.ensures, c.delimiter.ensures) at made.trim
+            ∙ c.new.ensures.trim;
         flexible = rw c.flexible.ensures at made.flexible;
         ready = inr (inr (rw (c.flexible.ensures, c.has_headers.ensures) at made.has_headers, made.headers));
       };

@@ -22,10 +22,12 @@ returns-clause-goes g c =
     let in_left : end ≤ length left = rw all at c.last_line_end-end.ensures.within in
     let tail : c.begin_with.new.spare.items ≡ drop end left = search (rules, take_rest) in
     let (gone, consumed, grown) = rw c.in_ok-is_last.was at c.put_and_read-put.ensures.bytes in
-    let read : AreReadBy l (take end left) (drop put_to (take end left)) before now = rw c.in_ok-put_to.was at c.put_and_read-put.ensures.put in
+    let read : AreReadBy l (take end left) (drop put_to (take end left)) before now =
+    rw c.in_ok-put_to.was at c.put_and_read-put.ensures.put in
     let within : put_to ≤ end = rw c.in_ok-put_to.was at c.put_and_read-put.ensures.within in
     let next : left_in c.go_on_from.new.rounds ≡ drop put_to (take end left ++ spare) = search rules in
-    Goes-round l (rem c.args.reader.now) (rem c.put_and_read-put.new.reader) left spare gone (left_in c.go_on_from.new.rounds) end put_to before now
+    Goes-round l (rem c.args.reader.now) (rem c.put_and_read-put.new.reader) left spare gone
+    (left_in c.go_on_from.new.rounds) end put_to before now
     within in_left read consumed (grown ∙ ap (λ t. t ++ gone) tail) next
 
 pub returns-clause-even : goal.returns-clause-even
@@ -34,5 +36,7 @@ returns-clause-even g c =
     let lines = take c.last_line_end-end.result (left_in c.args.rounds.now) in
     let before = map named c.args.columns.now in
     let now = map named c.put_and_read-put.new.columns in
-    let read : AreReadBy l lines (drop c.in_ok-put_to.put_to lines) before now = rw c.in_ok-put_to.was at c.put_and_read-put.ensures.put in
-    AreEven-read l.separator l.blank (looks_in l) lines (drop c.in_ok-put_to.put_to lines) before now read c.requires.even
+    let read : AreReadBy l lines (drop c.in_ok-put_to.put_to lines) before now =
+    rw c.in_ok-put_to.was at c.put_and_read-put.ensures.put in
+    AreEven-read l.separator l.blank (looks_in l) lines (drop c.in_ok-put_to.put_to lines) before now read
+    c.requires.even

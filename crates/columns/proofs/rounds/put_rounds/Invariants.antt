@@ -10,7 +10,8 @@ use Rattle.columns.proofs.rounds.put_rounds.Given as goal
 abbrev pub invariant-loop : goal.invariant-loop
 invariant-loop g l =
     (length l.columns ≡ length l.initial.columns)
-    × Goes l.layout (g.R.CountedRead.remaining l.initial.reader) (g.R.CountedRead.remaining l.reader) (left_in l.initial.rounds) (left_in l.rounds)
+    × Goes l.layout (g.R.CountedRead.remaining l.initial.reader) (g.R.CountedRead.remaining l.reader)
+    (left_in l.initial.rounds) (left_in l.rounds)
     (map named l.initial.columns) (map named l.columns)
     × (g.R.CountedRead.failures l.initial.reader ≤ g.R.CountedRead.failures l.reader)
     × (l.rounds.from ≤ vec_len l.rounds.bytes)

@@ -16,7 +16,10 @@ loop-at-preserved c =
     let front = columns_under (map (key_of name) (take at places)) [] in
     let key = key_of name (get_or places at 0) in
     let columns : map named c.push.new.self.items ≡ (before ++ front) ++ record { name = key; cells = [] } ∷ [] =
-    rw (c.in_ok-push.ensures.items, map_push named, so_far, c.in_ok-key_of.ensures, c.in_ok-with_capacity.ensures.items) refl in
+    rw (c.in_ok-push.ensures.items, map_push named, so_far, c.in_ok-key_of.ensures, c.in_ok-with_capacity.ensures.items)
+    refl in
     columns ∙ append_assoc before front (record { name = key; cells = [] } ∷ [])
     ∙ ap (λ l. before ++ l) (sym (columns_under-append (map (key_of name) (take at places)) (key ∷ [])))
-    ∙ ap (λ l. before ++ columns_under l []) (sym (map_push (key_of name) (take at places) (get_or places at 0)) ∙ ap (map (key_of name)) (sym (take_more places at 0 c.loop-at-test.true)))
+    ∙ ap (λ l. before ++ columns_under l [])
+    (sym (map_push (key_of name) (take at places) (get_or places at 0))
+    ∙ ap (map (key_of name)) (sym (take_more places at 0 c.loop-at-test.true)))

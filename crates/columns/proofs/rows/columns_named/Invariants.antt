@@ -8,4 +8,5 @@ use Rattle.columns.proofs.rows.columns_named.Given as goal
 
 -- the columns so far stand under the keys so far
 abbrev pub invariant-loop-place : goal.invariant-loop-place
-invariant-loop-place l = map named l.columns.items ≡ columns_under (kept_names (map places_in (take l.place l.looks)) (take l.place (fields_of l.header))) []
+invariant-loop-place l = map named l.columns.items
+    ≡ columns_under (kept_names (map places_in (take l.place l.looks)) (take l.place (fields_of l.header))) []

@@ -8,7 +8,8 @@ use Rattle.columns.proofs.rows.field_in.Goals as goal
 pub returns-in-Some : goal.returns-in-Some
 returns-in-Some c =
     let fields = fields_of c.args.row.now in
-    let there : slice_get fields c.args.place ≡ Some c.in-Some.field.now = sym (c.in-Some.ensures.value ∙ field_at_is fields c.args.place) in
+    let there : slice_get fields c.args.place ≡ Some c.in-Some.field.now =
+    sym (c.in-Some.ensures.value ∙ field_at_is fields c.args.place) in
     sym (get_or_from_slice_get fields c.args.place c.in-Some.field.now [] there)
 
 pub returns-in-None : goal.returns-in-None

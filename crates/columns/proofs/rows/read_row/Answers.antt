@@ -17,8 +17,10 @@ offset_bounds-columns-column c =
     let column = c.loop-place.column in
     let columns = c.loop-place.columns in
     let whole : items ≡ c.args.layout.now.looks.items = search rules in
-    let all : look_count looks ≡ length columns = ap (λ l. look_count (map places_in l)) whole ∙ c.requires ∙ sym c.loop-place.auto.columns in
-    let within : column ≤ length columns = column_room items place column (length columns) c.loop-place.invariant.which all in
+    let all : look_count looks ≡ length columns =
+    ap (λ l. look_count (map places_in l)) whole ∙ c.requires ∙ sym c.loop-place.auto.columns in
+    let within : column ≤ length columns =
+    column_room items place column (length columns) c.loop-place.invariant.which all in
     search (rules, within)
 
 pub slice_bounds-put_cell-count : goal.slice_bounds-put_cell-count
@@ -29,8 +31,10 @@ slice_bounds-put_cell-count c =
     let column = c.loop-place.column in
     let columns = c.loop-place.columns in
     let whole : items ≡ c.args.layout.now.looks.items = search rules in
-    let all : look_count looks ≡ length columns = ap (λ l. look_count (map places_in l)) whole ∙ c.requires ∙ sym c.loop-place.auto.columns in
-    let within : column ≤ length columns = column_room items place column (length columns) c.loop-place.invariant.which all in
+    let all : look_count looks ≡ length columns =
+    ap (λ l. look_count (map places_in l)) whole ∙ c.requires ∙ sym c.loop-place.auto.columns in
+    let within : column ≤ length columns =
+    column_room items place column (length columns) c.loop-place.invariant.which all in
     within
 
 pub slice_bounds-put_cell-start : goal.slice_bounds-put_cell-start
@@ -41,8 +45,10 @@ slice_bounds-put_cell-start c =
     let column = c.loop-place.column in
     let columns = c.loop-place.columns in
     let whole : items ≡ c.args.layout.now.looks.items = search rules in
-    let all : look_count looks ≡ length columns = ap (λ l. look_count (map places_in l)) whole ∙ c.requires ∙ sym c.loop-place.auto.columns in
-    let within : column ≤ length columns = column_room items place column (length columns) c.loop-place.invariant.which all in
+    let all : look_count looks ≡ length columns =
+    ap (λ l. look_count (map places_in l)) whole ∙ c.requires ∙ sym c.loop-place.auto.columns in
+    let within : column ≤ length columns =
+    column_room items place column (length columns) c.loop-place.invariant.which all in
     search (rules, within)
 
 pub put_cell-requires : goal.put_cell-requires
@@ -53,10 +59,13 @@ put_cell-requires c =
     let column = c.loop-place.column in
     let columns = c.loop-place.columns in
     let whole : items ≡ c.args.layout.now.looks.items = search rules in
-    let all : look_count looks ≡ length columns = ap (λ l. look_count (map places_in l)) whole ∙ c.requires ∙ sym c.loop-place.auto.columns in
+    let all : look_count looks ≡ length columns =
+    ap (λ l. look_count (map places_in l)) whole ∙ c.requires ∙ sym c.loop-place.auto.columns in
     let look = c.index-looks-place.result in
     let room : place < length items = c.loop-place-test.true in
-    rw c.places-places.ensures (tail_room columns column (length (places_in look)) (cell_room items place column (length columns) look c.loop-place.invariant.which all room c.index-looks-place.is))
+    rw c.places-places.ensures (tail_room columns column (length (places_in look))
+    (cell_room items place column (length columns) look c.loop-place.invariant.which all room
+    c.index-looks-place.is))
 
 pub overflow_add-column : goal.overflow_add-column
 overflow_add-column c =
@@ -66,10 +75,13 @@ overflow_add-column c =
     let column = c.loop-place.column in
     let columns = c.loop-place.columns in
     let whole : items ≡ c.args.layout.now.looks.items = search rules in
-    let all : look_count looks ≡ length columns = ap (λ l. look_count (map places_in l)) whole ∙ c.requires ∙ sym c.loop-place.auto.columns in
+    let all : look_count looks ≡ length columns =
+    ap (λ l. look_count (map places_in l)) whole ∙ c.requires ∙ sym c.loop-place.auto.columns in
     let look = c.index-looks-place.result in
     let room : place < length items = c.loop-place-test.true in
-    let fits : column + length (places_in look) ≤ length columns = cell_room items place column (length columns) look c.loop-place.invariant.which all room c.index-looks-place.is in
+    let fits : column + length (places_in look) ≤ length columns =
+    cell_room items place column (length columns) look c.loop-place.invariant.which all room
+    c.index-looks-place.is in
     let more : column + length c.places-places.result.now ≤ length columns = rw c.places-places.ensures fits in
     search (rules, more)
 
@@ -90,10 +102,13 @@ returns-then-not-branch-clause-refused c no_want =
     let wide : length cells ≡ length looks = length-map fields (filled b) ∙ long ∙ sym (length-map items places_in) in
     let in_looks : place < length looks = omega (arith, room, length-map items places_in) in
     let is : get_or looks place [] ≡ m = look_is items place look room c.index-looks-place.is in
-    let here : get_or cells place [] ≡ filled b (get_or fields place []) = get_or-map (filled b) fields place [] [] (omega (arith, room, long)) in
+    let here : get_or cells place [] ≡ filled b (get_or fields place []) =
+    get_or-map (filled b) fields place [] [] (omega (arith, room, long)) in
     let whole : items ≡ c.args.layout.now.looks.items = search rules in
-    let bad : is_good m (filled b (get_or fields place [])) ≡ false = rw (c.places-places.ensures, c.field_in-cell.ensures) at c.in_ok-put_cell.ensures.bad c.if-not-branch.true in
-    rw (sym whole) (RowSoFar-bad looks cells c.args.number place column _ _ m wide in_looks is (rw here bad) c.loop-place.invariant)
+    let bad : is_good m (filled b (get_or fields place [])) ≡ false =
+    rw (c.places-places.ensures, c.field_in-cell.ensures) at c.in_ok-put_cell.ensures.bad c.if-not-branch.true in
+    rw (sym whole) (RowSoFar-bad looks cells c.args.number place column _ _ m wide in_looks is (rw here bad)
+    c.loop-place.invariant)
 
 pub loop-place-preserved : goal.loop-place-preserved
 loop-place-preserved c =
@@ -103,8 +118,10 @@ loop-place-preserved c =
     let column = c.loop-place.column in
     let columns = c.loop-place.columns in
     let whole : items ≡ c.args.layout.now.looks.items = search rules in
-    let all : look_count looks ≡ length columns = ap (λ l. look_count (map places_in l)) whole ∙ c.requires ∙ sym c.loop-place.auto.columns in
-    let within : column ≤ length columns = column_room items place column (length columns) c.loop-place.invariant.which all in
+    let all : look_count looks ≡ length columns =
+    ap (λ l. look_count (map places_in l)) whole ∙ c.requires ∙ sym c.loop-place.auto.columns in
+    let within : column ≤ length columns =
+    column_room items place column (length columns) c.loop-place.invariant.which all in
     let look = c.index-looks-place.result in
     let room : place < length items = c.loop-place-test.true in
     let b = c.args.layout.now.blank in
@@ -115,10 +132,14 @@ loop-place-preserved c =
     let wide : length cells ≡ length looks = length-map fields (filled b) ∙ long ∙ sym (length-map items places_in) in
     let in_looks : place < length looks = omega (arith, room, length-map items places_in) in
     let is : get_or looks place [] ≡ m = look_is items place look room c.index-looks-place.is in
-    let here : get_or cells place [] ≡ filled b (get_or fields place []) = get_or-map (filled b) fields place [] [] (omega (arith, room, long)) in
+    let here : get_or cells place [] ≡ filled b (get_or fields place []) =
+    get_or-map (filled b) fields place [] [] (omega (arith, room, long)) in
     let new = c.put_cell.new.columns in
     let put : IsCellPut m (filled b (get_or fields place [])) (drop column (map named columns)) (map named new) =
-    rw (c.places-places.ensures, c.field_in-cell.ensures, named_tail column columns) at c.in_ok-put_cell.ensures.put c.if-not-branch.false in
+    rw (c.places-places.ensures, c.field_in-cell.ensures, named_tail column columns) at c.in_ok-put_cell.ensures.put
+    c.if-not-branch.false in
     let in_columns : column ≤ length (map named columns) = omega (arith, within, length-map columns named) in
-    rw (named_put column columns new within, c.places-places.ensures) (RowSoFar-cell looks cells c.args.number place column (map named columns) _ (map named new) m wide in_looks is in_columns
+    rw (named_put column columns new within, c.places-places.ensures)
+    (RowSoFar-cell looks cells c.args.number place column (map named columns) _ (map named new) m wide in_looks is
+    in_columns
     (rw here put) c.loop-place.invariant)

@@ -9,4 +9,5 @@ use Rattle.columns.proofs.rows.read_row.Given as goal
 -- the cells so far are put
 abbrev pub invariant-loop-place : goal.invariant-loop-place
 invariant-loop-place l =
-    RowSoFar (map places_in l.looks) (map (filled l.layout.blank) (fields_of l.row)) l.number l.place l.column (map named l.columns) (map named l.initial.columns)
+    RowSoFar (map places_in l.looks) (map (filled l.layout.blank) (fields_of l.row)) l.number l.place l.column
+    (map named l.columns) (map named l.initial.columns)

@@ -6,7 +6,8 @@ use Rattle.columns.proofs.rows.read_rows.Goals as goal
 pub returns-then-not-branch-clause-rows : goal.returns-then-not-branch-clause-rows
 returns-then-not-branch-clause-rows c rows r =
     let so_far = c.loop-number.invariant.so_far rows r in
-    RowsLeft-end _ _ _ _ _ _ _ rows _ _ so_far (c.in_ok-next_record.ensures.gave so_far.left so_far.reading) c.if-not-branch.true
+    RowsLeft-end _ _ _ _ _ _ _ rows _ _ so_far (c.in_ok-next_record.ensures.gave so_far.left so_far.reading)
+    c.if-not-branch.true
 
 pub returns-in_err-read_row-clause-rows : goal.returns-in_err-read_row-clause-rows
 returns-in_err-read_row-clause-rows c rows r =
@@ -14,7 +15,8 @@ returns-in_err-read_row-clause-rows c rows r =
     let fault = c.in_err-read_row.field-0.0 in
     let answer : c.from_residual-in_err-read_row.result ≡ Err fault = search rules in
     rw answer (λ no_want. RowsLeft-fault _ _ _ _ _ _ _ rows _ _ fault so_far
-    (c.in_ok-next_record.ensures.gave so_far.left so_far.reading) c.if-not-branch.false (c.in_err-read_row.ensures.refused no_want))
+    (c.in_ok-next_record.ensures.gave so_far.left so_far.reading) c.if-not-branch.false
+    (c.in_err-read_row.ensures.refused no_want))
 
 pub loop-number-preserved : goal.loop-number-preserved
 loop-number-preserved c = record {

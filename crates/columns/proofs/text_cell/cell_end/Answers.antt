@@ -8,5 +8,8 @@ returns-clause-goes c =
     let at = c.args.at in
     let m = c.mark_from.ensures in
     let first : (get_or text at 0 == 34) ≡ false = sym c.if-has_quote.ensures.quote in
-    three_some _ _ _ _ c.mark_from.result m.within m.none m.mark (λ end within none mark.
-    (take (end - at) (drop at text), bare_in c.args.separator text at end c.requires.separator within.0 within.1 none first mark))
+    three_some _ _ _ _ c.mark_from.result m.within m.none m.mark (λ end within none mark. (
+      take (end - at) (drop at text),
+      bare_in c.args.separator text at end c.requires.separator within.0 within.1 none
+          first mark,
+    ))

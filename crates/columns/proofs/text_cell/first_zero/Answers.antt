@@ -7,7 +7,8 @@ pub returns-then-zeros-eq0 : goal.returns-then-zeros-eq0
 returns-then-zeros-eq0 c =
     let v = c.args.lanes in
     let long = c.fits-lanes.0 in
-    sym (leading_from_mask_l (λ x. x == 0) v (sym (bitmask_splat w8 (λ a b. a == b) v 16 0 long (omega arith)) ∙ c.if-zeros-eq0.true) ∙ long)
+    sym (leading_from_mask_l (λ x. x == 0) v
+    (sym (bitmask_splat w8 (λ a b. a == b) v 16 0 long (omega arith)) ∙ c.if-zeros-eq0.true) ∙ long)
 
 pub returns-else-zeros-eq0 : goal.returns-else-zeros-eq0
 returns-else-zeros-eq0 c =

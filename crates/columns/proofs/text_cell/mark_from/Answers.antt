@@ -13,7 +13,8 @@ returns-then-run-lt-BLOCK-clause-none c k low high =
     let room : from + 16 ≤ length text = omega (arith, within, c.loop-from-test.true) in
     elim (before_or_after k from) [
       | inl before ↦ none k low before
-      | inr after ↦ run_in_chunk_fails (λ x. ends_cell c.args.separator x) text from 16 run 0 room c.bare_run-run.ensures k after high
+      | inr after ↦ run_in_chunk_fails (λ x. ends_cell c.args.separator x) text from 16 run 0 room
+          c.bare_run-run.ensures k after high
     ]
 
 pub returns-then-run-lt-BLOCK-clause-mark : goal.returns-then-run-lt-BLOCK-clause-mark
@@ -23,7 +24,8 @@ returns-then-run-lt-BLOCK-clause-mark c =
     let run = c.bare_run-run.result in
     let (at_from, within, none) = c.loop-from.invariant in
     let room : from + 16 ≤ length text = omega (arith, within, c.loop-from-test.true) in
-    run_in_chunk_stops (λ x. ends_cell c.args.separator x) text from 16 run 0 room c.bare_run-run.ensures (omega (arith, c.if-run-lt-BLOCK.true))
+    run_in_chunk_stops (λ x. ends_cell c.args.separator x) text from 16 run 0 room c.bare_run-run.ensures
+    (omega (arith, c.if-run-lt-BLOCK.true))
 
 pub loop-from-preserved : goal.loop-from-preserved
 loop-from-preserved c =
@@ -37,6 +39,7 @@ loop-from-preserved c =
       room,
       λ k low high. elim (before_or_after k from) [
         | inl before ↦ none k low before
-        | inr after ↦ run_in_chunk_fails (λ x. ends_cell c.args.separator x) text from 16 run 0 room c.bare_run-run.ensures k after (omega (arith, high, whole))
+        | inr after ↦ run_in_chunk_fails (λ x. ends_cell c.args.separator x) text from 16 run 0 room
+            c.bare_run-run.ensures k after (omega (arith, high, whole))
       ],
     )

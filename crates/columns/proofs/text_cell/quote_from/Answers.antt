@@ -23,7 +23,8 @@ returns-then-run-lt-BLOCK-clause-quote c =
     let run = c.quoted_run-run.result in
     let (at_from, within, none) = c.loop-from.invariant in
     let room : from + 16 ≤ length text = omega (arith, within, c.loop-from-test.true) in
-    eqb-true _ _ (run_in_chunk_stops (λ x. x == 34) text from 16 run 0 room c.quoted_run-run.ensures (omega (arith, c.if-run-lt-BLOCK.true)))
+    eqb-true _ _ (run_in_chunk_stops (λ x. x == 34) text from 16 run 0 room c.quoted_run-run.ensures
+    (omega (arith, c.if-run-lt-BLOCK.true)))
 
 pub loop-from-preserved : goal.loop-from-preserved
 loop-from-preserved c =
@@ -37,6 +38,7 @@ loop-from-preserved c =
       room,
       λ k low high. elim (before_or_after k from) [
         | inl before ↦ none k low before
-        | inr after ↦ run_in_chunk_fails (λ x. x == 34) text from 16 run 0 room c.quoted_run-run.ensures k after (omega (arith, high, whole))
+        | inr after ↦ run_in_chunk_fails (λ x. x == 34) text from 16 run 0 room c.quoted_run-run.ensures k after
+            (omega (arith, high, whole))
       ],
     )

@@ -10,5 +10,6 @@ returns-clause-goes c =
     let m = c.mark_from.ensures in
     three_some _ _ _ _ c.mark_from.result m.within m.none m.mark (λ end within none mark. (
       inside ++ take (end - from) (drop from text),
-      quoted_in c.args.separator text inside c.args.at from end c.requires.separator c.requires.within c.requires.quote within.0 within.1 (goes c.args.separator) none c.in_ok-from.ensures.single mark,
+      quoted_in c.args.separator text inside c.args.at from end c.requires.separator c.requires.within c.requires.quote
+          within.0 within.1 (goes c.args.separator) none c.in_ok-from.ensures.single mark,
     ))

@@ -16,7 +16,8 @@ loop-from-preserved c =
       omega (arith, room),
       (
         inside ++ (take (quote - c.loop-from.from) (drop c.loop-from.from text) ++ 34 ∷ []),
-        λ s. doubled_in s text inside c.args.at c.loop-from.from quote found.within.0 room found.none found.quote (search rules) (goes s),
+        λ s. doubled_in s text inside c.args.at c.loop-from.from quote found.within.0 room found.none found.quote
+            (search rules) (goes s),
       ),
     )
 
@@ -27,5 +28,6 @@ returns-else-quote-text-clause-goes c =
     let found = c.in_ok-quote.ensures in
     let (low, within, (inside, goes)) = c.loop-from.invariant in (
       inside ++ take (quote - c.loop-from.from) (drop c.loop-from.from text),
-      λ s. over_in s text inside c.args.at c.loop-from.from quote found.within.0 found.within.1 found.none found.quote (goes s),
+      λ s. over_in s text inside c.args.at c.loop-from.from quote found.within.0 found.within.1 found.none found.quote
+          (goes s),
     )

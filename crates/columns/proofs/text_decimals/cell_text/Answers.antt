@@ -11,7 +11,8 @@ returns-then-has_quote-clause-reads c is_last ys mark =
     let found = c.in_ok-to.ensures in
     let there = c.if-has_quote.ensures.quote in
     let quote : get_or text c.args.at 0 ≡ 34 = grind (arith, nat_tests, there) in
-    quoted_field c.args.separator text c.args.at c.in_ok-to.to is_last ys c.requires.separator (search rules) quote found.within.0 found.within.1 found.quote found.none mark
+    quoted_field c.args.separator text c.args.at c.in_ok-to.to is_last ys c.requires.separator (search rules) quote
+    found.within.0 found.within.1 found.quote found.none mark
 
 pub returns-clause-reads : goal.returns-clause-reads
 returns-clause-reads c is_last ys mark =
@@ -19,5 +20,7 @@ returns-clause-reads c is_last ys mark =
     let at = c.args.at in
     let end = c.in_ok-end.end in
     let found = c.in_ok-end.ensures in
-    let plain = none_between (ends_cell c.args.separator) text at end found.within.0 (omega (arith, found.within.1)) found.none in
-    bare_field c.args.separator text at end is_last ys c.requires.separator found.within.0 plain (sym c.if-has_quote.ensures.quote) mark
+    let plain = none_between (ends_cell c.args.separator) text at end found.within.0 (omega (arith, found.within.1))
+    found.none in
+    bare_field c.args.separator text at end is_last ys c.requires.separator found.within.0 plain
+    (sym c.if-has_quote.ensures.quote) mark

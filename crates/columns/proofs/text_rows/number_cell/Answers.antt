@@ -12,10 +12,13 @@ returns-then-is_some-clause-read c =
     let at = c.args.at in
     let end = c.in-Some.end in
     let cell = c.cell_before-cell.ensures in
-    let number : number_of (take (end - at) (drop at text)) ≡ Some c.in-Some.value = rw (c.in-Some.value-is, c.in-Some.end-is) c.in-Some.ensures.number in
-    let bare : list_all is_bare_byte (take (end - at) (drop at text)) ≡ true = rw c.in-Some.end-is c.in-Some.ensures.bare in
+    let number : number_of (take (end - at) (drop at text)) ≡ Some c.in-Some.value =
+    rw (c.in-Some.value-is, c.in-Some.end-is) c.in-Some.ensures.number in
+    let bare : list_all is_bare_byte (take (end - at) (drop at text)) ≡ true =
+    rw c.in-Some.end-is c.in-Some.ensures.bare in
     both_some _ _ _ c.cell_before-cell.result cell.value cell.after (λ x value after.
-    short_there c.args.separator c.args.blank text at end x.value x.is_last _ c.requires.separator (search rules) (passed _ _ x.value number value) bare after)
+    short_there c.args.separator c.args.blank text at end x.value x.is_last _ c.requires.separator (search rules)
+    (passed _ _ x.value number value) bare after)
 
 pub other_cell-requires-clause-bare : goal.other_cell-requires-clause-bare
 other_cell-requires-clause-bare c = sym c.if-has_quote.ensures.quote

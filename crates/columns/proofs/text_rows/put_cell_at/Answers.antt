@@ -10,4 +10,5 @@ returns-in-Integers-clause-read c =
     let read = c.put_number.ensures.read in
     rw c.in-Integers.is (both_some _ _ _ c.put_number.result read read (λ next put same.
     let (n, there, grown) = put in
-    IsCellThere-integer _ _ _ _ _ c.args.columns.now c.index-columns-0.result _ n within there c.index-columns-0.is (rw (sym c.index-columns-0.is) at grown)))
+    IsCellThere-integer _ _ _ _ _ c.args.columns.now c.index-columns-0.result _ n within there c.index-columns-0.is
+    (rw (sym c.index-columns-0.is) at grown)))

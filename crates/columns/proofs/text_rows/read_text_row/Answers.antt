@@ -1,4 +1,5 @@
-use Rattle.std.proofs.Common.{◌≡◌, ◌<◌, ◌≤◌, ◌+◌, ◌-◌, ◌∙◌, [], ℕ, List, ap, arith, drop, get_or, length, map, refl, rules, sym}
+use Rattle.std.proofs.Common.{◌≡◌, ◌<◌, ◌≤◌, ◌+◌, ◌-◌, ◌∙◌, [], ℕ, List, ap, arith, drop, get_or, length, map, refl}
+use Rattle.std.proofs.Common.{rules, sym}
 use Rattle.std.proofs.lemmas.List.{length-map}
 use Rattle.tables.specs.Table.{NamedColumn}
 use Rattle.tables.specs.TableOfColumns.{named}
@@ -28,7 +29,8 @@ offset_bounds-columns-column c =
     let columns = c.loop-place.columns in
     let (low, high, which, so_far, begun) = c.loop-place.invariant in
     let whole : items ≡ c.args.layout.now.looks.items = search rules in
-    let all : look_count looks ≡ length columns = ap (λ l. look_count (map places_in l)) whole ∙ c.requires.fits.wide ∙ sym c.loop-place.auto.columns in
+    let all : look_count looks ≡ length columns =
+    ap (λ l. look_count (map places_in l)) whole ∙ c.requires.fits.wide ∙ sym c.loop-place.auto.columns in
     let within : column ≤ length columns = column_room items place column (length columns) which all in
     search (rules, within)
 
@@ -41,7 +43,8 @@ slice_bounds-put_cell_at-count c =
     let columns = c.loop-place.columns in
     let (low, high, which, so_far, begun) = c.loop-place.invariant in
     let whole : items ≡ c.args.layout.now.looks.items = search rules in
-    let all : look_count looks ≡ length columns = ap (λ l. look_count (map places_in l)) whole ∙ c.requires.fits.wide ∙ sym c.loop-place.auto.columns in
+    let all : look_count looks ≡ length columns =
+    ap (λ l. look_count (map places_in l)) whole ∙ c.requires.fits.wide ∙ sym c.loop-place.auto.columns in
     let within : column ≤ length columns = column_room items place column (length columns) which all in
     within
 
@@ -54,7 +57,8 @@ slice_bounds-put_cell_at-start c =
     let columns = c.loop-place.columns in
     let (low, high, which, so_far, begun) = c.loop-place.invariant in
     let whole : items ≡ c.args.layout.now.looks.items = search rules in
-    let all : look_count looks ≡ length columns = ap (λ l. look_count (map places_in l)) whole ∙ c.requires.fits.wide ∙ sym c.loop-place.auto.columns in
+    let all : look_count looks ≡ length columns =
+    ap (λ l. look_count (map places_in l)) whole ∙ c.requires.fits.wide ∙ sym c.loop-place.auto.columns in
     let within : column ≤ length columns = column_room items place column (length columns) which all in
     search (rules, within)
 
@@ -67,7 +71,8 @@ offset_bounds-columns-column-2 c =
     let columns = c.loop-place.columns in
     let (low, high, which, so_far, begun) = c.loop-place.invariant in
     let whole : items ≡ c.args.layout.now.looks.items = search rules in
-    let all : look_count looks ≡ length columns = ap (λ l. look_count (map places_in l)) whole ∙ c.requires.fits.wide ∙ sym c.loop-place.auto.columns in
+    let all : look_count looks ≡ length columns =
+    ap (λ l. look_count (map places_in l)) whole ∙ c.requires.fits.wide ∙ sym c.loop-place.auto.columns in
     let within : column ≤ length columns = column_room items place column (length columns) which all in
     search (rules, within)
 
@@ -80,7 +85,8 @@ slice_bounds-put_cell_at-count-2 c =
     let columns = c.loop-place.columns in
     let (low, high, which, so_far, begun) = c.loop-place.invariant in
     let whole : items ≡ c.args.layout.now.looks.items = search rules in
-    let all : look_count looks ≡ length columns = ap (λ l. look_count (map places_in l)) whole ∙ c.requires.fits.wide ∙ sym c.loop-place.auto.columns in
+    let all : look_count looks ≡ length columns =
+    ap (λ l. look_count (map places_in l)) whole ∙ c.requires.fits.wide ∙ sym c.loop-place.auto.columns in
     let within : column ≤ length columns = column_room items place column (length columns) which all in
     within
 
@@ -93,7 +99,8 @@ slice_bounds-put_cell_at-start-2 c =
     let columns = c.loop-place.columns in
     let (low, high, which, so_far, begun) = c.loop-place.invariant in
     let whole : items ≡ c.args.layout.now.looks.items = search rules in
-    let all : look_count looks ≡ length columns = ap (λ l. look_count (map places_in l)) whole ∙ c.requires.fits.wide ∙ sym c.loop-place.auto.columns in
+    let all : look_count looks ≡ length columns =
+    ap (λ l. look_count (map places_in l)) whole ∙ c.requires.fits.wide ∙ sym c.loop-place.auto.columns in
     let within : column ≤ length columns = column_room items place column (length columns) which all in
     search (rules, within)
 
@@ -106,11 +113,13 @@ put_cell_at-requires-clause-room c =
     let columns = c.loop-place.columns in
     let (low, high, which, so_far, begun) = c.loop-place.invariant in
     let whole : items ≡ c.args.layout.now.looks.items = search rules in
-    let all : look_count looks ≡ length columns = ap (λ l. look_count (map places_in l)) whole ∙ c.requires.fits.wide ∙ sym c.loop-place.auto.columns in
+    let all : look_count looks ≡ length columns =
+    ap (λ l. look_count (map places_in l)) whole ∙ c.requires.fits.wide ∙ sym c.loop-place.auto.columns in
     let within : column ≤ length columns = column_room items place column (length columns) which all in
     let look = c.index-looks-place.result in
     let room : place < length items = omega (arith, c.loop-place-test.true) in
-    tail_room columns column (length (places_in look)) (cell_room items place column (length columns) look which all room c.index-looks-place.is)
+    tail_room columns column (length (places_in look))
+    (cell_room items place column (length columns) look which all room c.index-looks-place.is)
 
 pub put_cell_at-requires-2-clause-room : goal.put_cell_at-requires-2-clause-room
 put_cell_at-requires-2-clause-room c =
@@ -121,14 +130,24 @@ put_cell_at-requires-2-clause-room c =
     let columns = c.loop-place.columns in
     let (low, high, which, so_far, begun) = c.loop-place.invariant in
     let whole : items ≡ c.args.layout.now.looks.items = search rules in
-    let all : look_count looks ≡ length columns = ap (λ l. look_count (map places_in l)) whole ∙ c.requires.fits.wide ∙ sym c.loop-place.auto.columns in
+    let all : look_count looks ≡ length columns =
+    ap (λ l. look_count (map places_in l)) whole ∙ c.requires.fits.wide ∙ sym c.loop-place.auto.columns in
     let within : column ≤ length columns = column_room items place column (length columns) which all in
     let look = c.index-looks-last.result in
-    let long : length items ≡ place + 1 = omega (arith, c.loop-place-test.false, c.loop-place.auto.place-end, c.requires.fits.some_cell, ap length whole, length-map c.args.layout.now.looks.items places_in) in
+    let long : length items ≡ place + 1 =
+    omega (
+      arith,
+      c.loop-place-test.false,
+      c.loop-place.auto.place-end,
+      c.requires.fits.some_cell,
+      ap length whole,
+      length-map c.args.layout.now.looks.items places_in,
+    ) in
     let room : place < length items = omega (arith, long) in
     let last : length items - 1 ≡ place = omega (arith, long) in
     let here = rw last at c.index-looks-last.is in
-    tail_room columns column (length (places_in look)) (cell_room items place column (length columns) look which all room here)
+    tail_room columns column (length (places_in look))
+    (cell_room items place column (length columns) look which all room here)
 
 pub overflow_add-column : goal.overflow_add-column
 overflow_add-column c =
@@ -139,11 +158,13 @@ overflow_add-column c =
     let columns = c.loop-place.columns in
     let (low, high, which, so_far, begun) = c.loop-place.invariant in
     let whole : items ≡ c.args.layout.now.looks.items = search rules in
-    let all : look_count looks ≡ length columns = ap (λ l. look_count (map places_in l)) whole ∙ c.requires.fits.wide ∙ sym c.loop-place.auto.columns in
+    let all : look_count looks ≡ length columns =
+    ap (λ l. look_count (map places_in l)) whole ∙ c.requires.fits.wide ∙ sym c.loop-place.auto.columns in
     let within : column ≤ length columns = column_room items place column (length columns) which all in
     let look = c.index-looks-place.result in
     let room : place < length items = omega (arith, c.loop-place-test.true) in
-    let fits : column + length (places_in look) ≤ length columns = cell_room items place column (length columns) look which all room c.index-looks-place.is in
+    let fits : column + length (places_in look) ≤ length columns =
+    cell_room items place column (length columns) look which all room c.index-looks-place.is in
     let more : column + length c.places.result.now ≤ length columns = rw c.places.ensures fits in
     search (rules, more)
 
@@ -156,12 +177,15 @@ returns-in_err-next-clause-begun c =
     let columns = c.loop-place.columns in
     let (low, high, which, so_far, begun) = c.loop-place.invariant in
     let whole : items ≡ c.args.layout.now.looks.items = search rules in
-    let all : look_count looks ≡ length columns = ap (λ l. look_count (map places_in l)) whole ∙ c.requires.fits.wide ∙ sym c.loop-place.auto.columns in
+    let all : look_count looks ≡ length columns =
+    ap (λ l. look_count (map places_in l)) whole ∙ c.requires.fits.wide ∙ sym c.loop-place.auto.columns in
     let within : column ≤ length columns = column_room items place column (length columns) which all in
     let new = c.put_cell_at.new.columns in
-    let go : (n : ℕ) (first : List NamedColumn) → HaveRows n first → IsBegun n first (drop column (map named columns)) → IsBegun n first (map named new) =
+    let go : (n : ℕ) (first : List NamedColumn) → HaveRows n first → IsBegun n first (drop column (map named columns))
+    → IsBegun n first (map named new) =
     rw (named_tail column columns) at c.in_err-next.ensures.begun in
-    if_none c.from_residual.result (λ n h. rw (named_put column columns new within) (IsBegun-join n column _ (map named columns) (map named new) h (begun n h) go))
+    if_none c.from_residual.result (λ n h. rw (named_put column columns new within)
+    (IsBegun-join n column _ (map named columns) (map named new) h (begun n h) go))
 
 pub loop-place-preserved : goal.loop-place-preserved
 loop-place-preserved c =
@@ -172,7 +196,8 @@ loop-place-preserved c =
     let columns = c.loop-place.columns in
     let (low, high, which, so_far, begun) = c.loop-place.invariant in
     let whole : items ≡ c.args.layout.now.looks.items = search rules in
-    let all : look_count looks ≡ length columns = ap (λ l. look_count (map places_in l)) whole ∙ c.requires.fits.wide ∙ sym c.loop-place.auto.columns in
+    let all : look_count looks ≡ length columns =
+    ap (λ l. look_count (map places_in l)) whole ∙ c.requires.fits.wide ∙ sym c.loop-place.auto.columns in
     let within : column ≤ length columns = column_room items place column (length columns) which all in
     let look = c.index-looks-place.result in
     let room : place < length items = omega (arith, c.loop-place-test.true) in
@@ -181,15 +206,19 @@ loop-place-preserved c =
     let m = places_in look in
     let in_looks : place < length looks = omega (arith, room, length-map items places_in) in
     let is : get_or looks place [] ≡ m = look_is items place look room c.index-looks-place.is in
-    let go : (n : ℕ) (first : List NamedColumn) → HaveRows n first → IsBegun n first (drop column (map named columns)) → IsBegun n first (map named new) =
+    let go : (n : ℕ) (first : List NamedColumn) → HaveRows n first → IsBegun n first (drop column (map named columns))
+    → IsBegun n first (map named new) =
     rw (named_tail column columns) at next.begun in
     let there = rw (named_tail column columns) at next.read in
     let in_columns : column ≤ length (map named columns) = omega (arith, within, length-map columns named) in (
       omega (arith, low, next.on.0),
       next.on.1,
       omega (arith, which, ap length c.places.ensures, look_count_up looks place m in_looks is),
-      rw (named_put column columns new within) (AreCellsIn-cell _ _ looks _ _ _ (map named columns) _ (map named new) place column m in_looks is which in_columns so_far there),
-      λ n h. rw (named_put column columns new within) (IsBegun-join n column _ (map named columns) (map named new) h (begun n h) go),
+      rw (named_put column columns new within)
+          (AreCellsIn-cell _ _ looks _ _ _ (map named columns) _ (map named new) place column m in_looks is which
+          in_columns so_far there),
+      λ n h. rw (named_put column columns new within)
+          (IsBegun-join n column _ (map named columns) (map named new) h (begun n h) go),
     )
 
 pub returns-clause-read : goal.returns-clause-read
@@ -201,10 +230,19 @@ returns-clause-read c =
     let columns = c.loop-place.columns in
     let (low, high, which, so_far, begun) = c.loop-place.invariant in
     let whole : items ≡ c.args.layout.now.looks.items = search rules in
-    let all : look_count looks ≡ length columns = ap (λ l. look_count (map places_in l)) whole ∙ c.requires.fits.wide ∙ sym c.loop-place.auto.columns in
+    let all : look_count looks ≡ length columns =
+    ap (λ l. look_count (map places_in l)) whole ∙ c.requires.fits.wide ∙ sym c.loop-place.auto.columns in
     let within : column ≤ length columns = column_room items place column (length columns) which all in
     let look = c.index-looks-last.result in
-    let long : length items ≡ place + 1 = omega (arith, c.loop-place-test.false, c.loop-place.auto.place-end, c.requires.fits.some_cell, ap length whole, length-map c.args.layout.now.looks.items places_in) in
+    let long : length items ≡ place + 1 =
+    omega (
+      arith,
+      c.loop-place-test.false,
+      c.loop-place.auto.place-end,
+      c.requires.fits.some_cell,
+      ap length whole,
+      length-map c.args.layout.now.looks.items places_in,
+    ) in
     let room : place < length items = omega (arith, long) in
     let last : length items - 1 ≡ place = omega (arith, long) in
     let here = rw last at c.index-looks-last.is in
@@ -214,10 +252,13 @@ returns-clause-read c =
     let count : length looks ≡ place + 1 = length-map items places_in ∙ long in
     let width : look_count looks ≡ length (map named columns) = all ∙ sym (length-map columns named) in
     let same : length (map named new) ≡ length (drop column (map named columns)) =
-    length-map new named ∙ c.put_cell_at-2.auto.columns ∙ sym (length-map _ named) ∙ ap length (named_tail column columns) in
+    length-map new named ∙ c.put_cell_at-2.auto.columns ∙ sym (length-map _ named)
+    ∙ ap length (named_tail column columns) in
     let read = rw (named_tail column columns) at c.put_cell_at-2.ensures.read in
     both_some _ _ _ c.put_cell_at-2.result read read (λ next there same_there.
-    rw (sym whole, named_put column columns new within) (IsRowIn-cell _ _ looks _ _ _ (map named columns) _ (map named new) place column m count is which width same so_far there))
+    rw (sym whole, named_put column columns new within)
+    (IsRowIn-cell _ _ looks _ _ _ (map named columns) _ (map named new) place column m count is which width same
+    so_far there))
 
 pub returns-clause-begun : goal.returns-clause-begun
 returns-clause-begun c =
@@ -228,9 +269,12 @@ returns-clause-begun c =
     let columns = c.loop-place.columns in
     let (low, high, which, so_far, begun) = c.loop-place.invariant in
     let whole : items ≡ c.args.layout.now.looks.items = search rules in
-    let all : look_count looks ≡ length columns = ap (λ l. look_count (map places_in l)) whole ∙ c.requires.fits.wide ∙ sym c.loop-place.auto.columns in
+    let all : look_count looks ≡ length columns =
+    ap (λ l. look_count (map places_in l)) whole ∙ c.requires.fits.wide ∙ sym c.loop-place.auto.columns in
     let within : column ≤ length columns = column_room items place column (length columns) which all in
     let new = c.put_cell_at-2.new.columns in
-    let go : (n : ℕ) (first : List NamedColumn) → HaveRows n first → IsBegun n first (drop column (map named columns)) → IsBegun n first (map named new) =
+    let go : (n : ℕ) (first : List NamedColumn) → HaveRows n first → IsBegun n first (drop column (map named columns))
+    → IsBegun n first (map named new) =
     rw (named_tail column columns) at c.put_cell_at-2.ensures.begun in
-    if_none c.put_cell_at-2.result (λ n h. rw (named_put column columns new within) (IsBegun-join n column _ (map named columns) (map named new) h (begun n h) go))
+    if_none c.put_cell_at-2.result (λ n h. rw (named_put column columns new within)
+    (IsBegun-join n column _ (map named columns) (map named new) h (begun n h) go))

@@ -8,5 +8,7 @@ use Rattle.columns.proofs.text_rows.read_text_row.Given as goal
 abbrev pub invariant-loop-place : goal.invariant-loop-place
 invariant-loop-place l =
     (l.at ≤ l.next) × (l.next ≤ length l.text) × (l.column ≡ look_count (take l.place (map places_in l.looks)))
-    × AreCellsIn l.layout.separator l.layout.blank (map places_in l.looks) (drop l.at l.text) (drop l.next l.text) l.place (map named l.initial.columns) (map named l.columns)
-    × ((n : ℕ) → HaveRows n (map named l.initial.columns) → IsBegun n (map named l.initial.columns) (map named l.columns))
+    × AreCellsIn l.layout.separator l.layout.blank (map places_in l.looks) (drop l.at l.text) (drop l.next l.text)
+    l.place (map named l.initial.columns) (map named l.columns)
+    × ((n : ℕ) → HaveRows n (map named l.initial.columns)
+    → IsBegun n (map named l.initial.columns) (map named l.columns))

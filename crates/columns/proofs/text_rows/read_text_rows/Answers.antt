@@ -7,15 +7,26 @@ use Rattle.columns.proofs.TextRowLemmas.{AreReadIn-join, AreReadIn-none, AreRead
 use Rattle.columns.proofs.text_rows.read_text_rows.Goals as goal
 
 pub loop-at-init : goal.loop-at-init
-loop-at-init c = (omega (arith, c.requires.within.0, c.requires.within.1), omega arith, refl, c.requires.even, AreReadIn-none _ _ _ _ _)
+loop-at-init c = (
+  omega (arith, c.requires.within.0, c.requires.within.1),
+  omega arith,
+  refl,
+  c.requires.even,
+  AreReadIn-none _ _ _ _ _,
+)
 
 pub loop-at-preserved-then-is_line_end : goal.loop-at-preserved-then-is_line_end
 loop-at-preserved-then-is_line_end c =
     let text = c.args.text.now in
     let at = c.loop-at.at in
     let (low, from, wide, even, so_far) = c.loop-at.invariant in
-    let here = drop_more text at 0 (search rules) in
-    (search rules, omega (arith, from), wide, even, AreReadIn-skip _ _ _ _ (drop (at + 1) text) (get_or text at 0) _ _ (search rules) (rw here at so_far))
+    let here = drop_more text at 0 (search rules) in (
+      search rules,
+      omega (arith, from),
+      wide,
+      even,
+      AreReadIn-skip _ _ _ _ (drop (at + 1) text) (get_or text at 0) _ _ (search rules) (rw here at so_far),
+    )
 
 pub loop-at-preserved : goal.loop-at-preserved
 loop-at-preserved c =

@@ -8,4 +8,5 @@ loop-column-preserved c =
     let i = c.loop-column.column-index in
     let h : i < length c.loop-column.columns = search rules in
     let k : i < length c.args.columns.now = search rules in
-    cut_next c.args.rows c.loop-column.columns c.args.columns.now i c.column-item.result _ h k c.column-item.is (search rules) front rest
+    cut_next c.args.rows c.loop-column.columns c.args.columns.now i c.column-item.result _ h k c.column-item.is
+    (search rules) front rest

@@ -6,7 +6,8 @@ use Rattle.counted_io.proofs.counted_read.read_up_to.Given as goal
 abbrev pub invariant-loop-filled : goal.invariant-loop-filled
 invariant-loop-filled g l =
     (l.filled ≤ vec_len l.bytes)
-    × HasGiven (g.R.CountedRead.remaining l.initial.reader) (g.R.CountedRead.remaining l.reader) l.initial.bytes.items (take l.filled l.bytes.items)
+    × HasGiven (g.R.CountedRead.remaining l.initial.reader) (g.R.CountedRead.remaining l.reader) l.initial.bytes.items
+    (take l.filled l.bytes.items)
     × (g.R.CountedRead.failures l.initial.reader ≤ g.R.CountedRead.failures l.reader)
 
 abbrev pub decreases-loop-filled : goal.decreases-loop-filled

@@ -29,7 +29,8 @@ pub printed-requires-clause-named : goal.printed-requires-clause-named
 printed-requires-clause-named g c = λ lifetimes lives.
     let js = jobs_of c.args.jobs.items in
     let b = (goal.at.printed-requires-clause-named g c).After-deref-3 in
-    subst (λ (ns : List (List ℕ)). All (IsNamed ns) c.deref-3.result.now) (names g b) (subst (λ (bs : List Answer). All (IsNamed (names_of js)) bs) (answers g b) (named js))
+    subst (λ (ns : List (List ℕ)). All (IsNamed ns) c.deref-3.result.now) (names g b)
+    (subst (λ (bs : List Answer). All (IsNamed (names_of js)) bs) (answers g b) (named js))
 
 pub printed-requires-clause-text : goal.printed-requires-clause-text
 printed-requires-clause-text g c = λ lifetimes lives.
@@ -40,5 +41,9 @@ printed-requires-clause-text g c = λ lifetimes lives.
 pub returns : goal.returns
 returns g c =
     let b = (goal.at.returns g c).After-deref-3 in
-    subst (λ (ns : List (List ℕ)). IfOk c.printed.result (λ (report : List ℕ). report ≡ report_in (form_of c.args.settings.now) ns (meaning_of (jobs_of c.args.jobs.items)))) (sym (names g b))
-    (subst (λ (bs : List Answer). IfOk c.printed.result (λ (report : List ℕ). report ≡ report_in (form_of c.args.settings.now) c.deref-2.result.now bs)) (sym (answers g b)) c.printed.ensures)
+    subst (λ (ns : List (List ℕ)). IfOk c.printed.result
+    (λ (report : List ℕ). report ≡ report_in (form_of c.args.settings.now) ns
+    (meaning_of (jobs_of c.args.jobs.items)))) (sym (names g b))
+    (subst (λ (bs : List Answer). IfOk c.printed.result
+    (λ (report : List ℕ). report ≡ report_in (form_of c.args.settings.now) c.deref-2.result.now bs))
+    (sym (answers g b)) c.printed.ensures)

@@ -13,5 +13,10 @@ returns-in-Err-clause-err g c =
 
 pub returns-in_default-clause-err : goal.returns-in_default-clause-err
 returns-in_default-clause-err g c =
-    let columns = some_whole (g.C.CountedRead.remaining c.args.columns.now) in
-    (columns.0, columns.1, c.in-Ok.bytes.items, c.in-Ok.ensures.bytes, λ by_jobs_not. absurd (let e : true ≡ false = sym c.requires ∙ by_jobs_not in cc))
+    let columns = some_whole (g.C.CountedRead.remaining c.args.columns.now) in (
+      columns.0,
+      columns.1,
+      c.in-Ok.bytes.items,
+      c.in-Ok.ensures.bytes,
+      λ by_jobs_not. absurd (let e : true ≡ false = sym c.requires ∙ by_jobs_not in cc),
+    )

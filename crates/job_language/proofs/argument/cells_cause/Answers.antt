@@ -8,7 +8,8 @@ use Rattle.job_language.proofs.argument.cells_cause.Goals as goal
 pub returns-in-Some : goal.returns-in-Some
 returns-in-Some c =
     let s = scope_of c.args.scope in
-    sym (c.loop-name.invariant ∙ cell_here s c.args.names.now c.loop-name.name-index c.name-item.result c.in-Some.cause c.loop-name-test.true (
+    sym (c.loop-name.invariant ∙ cell_here s c.args.names.now c.loop-name.name-index c.name-item.result c.in-Some.cause
+    c.loop-name-test.true (
     ap (λ w. cell_cause s.rows (cells_named w s.columns)) (sym c.name-item.is)
     ∙ ap (λ w. cell_cause s.rows (cells_named w s.columns)) (sym c.as_slice.ensures)
     ∙ sym c.cell_cause.ensures
@@ -17,11 +18,13 @@ returns-in-Some c =
 pub loop-name-preserved : goal.loop-name-preserved
 loop-name-preserved c =
     let s = scope_of c.args.scope in
-    c.loop-name.invariant ∙ cell_more s c.args.names.now c.loop-name.name-index c.name-item.result c.loop-name-test.true (
+    c.loop-name.invariant ∙ cell_more s c.args.names.now c.loop-name.name-index c.name-item.result c.loop-name-test.true
+    (
     ap (λ w. cell_cause s.rows (cells_named w s.columns)) (sym c.name-item.is)
     ∙ ap (λ w. cell_cause s.rows (cells_named w s.columns)) (sym c.as_slice.ensures)
     ∙ sym c.cell_cause.ensures
     ∙ c.in_default.is)
 
 pub returns : goal.returns
-returns c = sym (c.loop-name.invariant ∙ no_cells (scope_of c.args.scope) c.args.names.now c.loop-name.name-index c.loop-name-test.false)
+returns c = sym (c.loop-name.invariant ∙ no_cells (scope_of c.args.scope) c.args.names.now c.loop-name.name-index
+    c.loop-name-test.false)

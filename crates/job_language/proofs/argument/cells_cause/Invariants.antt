@@ -5,4 +5,5 @@ use Rattle.job_language.specs.Arguments.{cell_causes}
 use Rattle.job_language.proofs.argument.cells_cause.Given as goal
 
 abbrev pub invariant-loop-name : goal.invariant-loop-name
-invariant-loop-name l = first_cause (cell_causes (scope_of l.scope) l.names) ≡ first_cause (cell_causes (scope_of l.scope) (drop l.name-index l.names))
+invariant-loop-name l = first_cause (cell_causes (scope_of l.scope) l.names)
+    ≡ first_cause (cell_causes (scope_of l.scope) (drop l.name-index l.names))

@@ -15,12 +15,15 @@ returns-then-count-eq0 c =
     let call = c.args.call.now in
     let k = placed_in ws call in
     let none : length c.as_slice-count.result.now ≡ 0 = search rules in
-    let param = none_last call.operation (drop (call.opened + 1) ws) call.ends.items (ap length (sym c.as_slice-count.ensures.value) ∙ none) in
-    subst (λ p. IsReadBy p (scope_of c.args.scope) k.call.parts (argument_text c.args.text.now k).bytes (Ok nothing)) (sym param) refl
+    let param = none_last call.operation (drop (call.opened + 1) ws) call.ends.items
+    (ap length (sym c.as_slice-count.ensures.value) ∙ none) in
+    subst (λ p. IsReadBy p (scope_of c.args.scope) k.call.parts (argument_text c.args.text.now k).bytes (Ok nothing))
+    (sym param) refl
 
 pub read_by-requires-clause-parts : goal.read_by-requires-clause-parts
 read_by-requires-clause-parts c =
-    let same : length c.as_slice-count.result.now ≡ length c.args.call.now.ends.items = ap length c.as_slice-count.ensures.value in
+    let same : length c.as_slice-count.result.now ≡ length c.args.call.now.ends.items =
+    ap length c.as_slice-count.ensures.value in
     let some : 0 < length c.as_slice-count.result.now = search rules in
     omega arith
 
@@ -32,5 +35,7 @@ returns c =
     let n = length c.as_slice-count.result.now in
     let same : n ≡ length call.ends.items = ap length c.as_slice-count.ensures.value in
     let some : 0 < n = search rules in
-    let param = c.param_of-param.ensures ∙ ap (λ n. param_of call.operation n (n - 1)) same ∙ last_some call.operation (drop (call.opened + 1) ws) 0 call.ends.items (omega arith) in
-    subst (λ p. Answers argument_in (IsReadBy p (scope_of c.args.scope) k.call.parts (argument_text c.args.text.now k).bytes) c.read_by.result) param c.read_by.ensures
+    let param = c.param_of-param.ensures ∙ ap (λ n. param_of call.operation n (n - 1)) same
+    ∙ last_some call.operation (drop (call.opened + 1) ws) 0 call.ends.items (omega arith) in
+    subst (λ p. Answers argument_in (IsReadBy p (scope_of c.args.scope) k.call.parts
+    (argument_text c.args.text.now k).bytes) c.read_by.result) param c.read_by.ensures

@@ -17,11 +17,15 @@ returns-in-Name c =
     let call = c.args.call.now in
     let k = placed_in ws call in
     let some = c.requires.parts in
-    let count : length k.call.parts ≡ length call.ends.items = length_parts (drop (call.opened + 1) ws) 0 call.ends.items in
+    let count : length k.call.parts ≡ length call.ends.items =
+    length_parts (drop (call.opened + 1) ws) 0 call.ends.items in
     let same : length c.as_slice.result.now ≡ length k.call.parts = ap length c.as_slice.ensures.value ∙ sym count in
-    let words = c.part_of-last.ensures.words ∙ ap (λ n. get_or k.call.parts (n - 1) []) same ∙ last_at k.call.parts (omega arith) in
-    subst (λ p. Answers argument_in (IsReadBy p s k.call.parts (argument_text c.args.text.now k).bytes) c.read_name.result) (sym c.in-Name.is)
-    (subst (λ o. Answers argument_in (λ r. name_answer s o ≡ r) c.read_name.result) (c.name_in.ensures ∙ ap name_in words) c.read_name.ensures)
+    let words = c.part_of-last.ensures.words ∙ ap (λ n. get_or k.call.parts (n - 1) []) same
+    ∙ last_at k.call.parts (omega arith) in
+    subst (λ p. Answers argument_in (IsReadBy p s k.call.parts (argument_text c.args.text.now k).bytes)
+    c.read_name.result) (sym c.in-Name.is)
+    (subst (λ o. Answers argument_in (λ r. name_answer s o ≡ r) c.read_name.result)
+    (c.name_in.ensures ∙ ap name_in words) c.read_name.ensures)
 
 pub returns-in-Operator : goal.returns-in-Operator
 returns-in-Operator c =
@@ -31,10 +35,15 @@ returns-in-Operator c =
     let call = c.args.call.now in
     let k = placed_in ws call in
     let some = c.requires.parts in
-    let count : length k.call.parts ≡ length call.ends.items = length_parts (drop (call.opened + 1) ws) 0 call.ends.items in
+    let count : length k.call.parts ≡ length call.ends.items =
+    length_parts (drop (call.opened + 1) ws) 0 call.ends.items in
     let same : length c.as_slice.result.now ≡ length k.call.parts = ap length c.as_slice.ensures.value ∙ sym count in
-    let words = c.part_of-last.ensures.words ∙ ap (λ n. get_or k.call.parts (n - 1) []) same ∙ last_at k.call.parts (omega arith) in
+    let words = c.part_of-last.ensures.words ∙ ap (λ n. get_or k.call.parts (n - 1) []) same
+    ∙ last_at k.call.parts (omega arith) in
     let text = c.part_of-last.ensures.last (omega arith) in
-    subst (λ p. Answers argument_in (IsReadBy p s k.call.parts (argument_text t k).bytes) c.read_operator.result) (sym c.in-Operator.is)
-    (subst (λ u. Answers argument_in (IsOperatorRead (is_add_exact (last_part k.call.parts)) (spelled_op (last_part k.call.parts)) s u.bytes) c.read_operator.result) text
-    (subst (λ v. Answers argument_in (IsOperatorRead (is_add_exact v) (spelled_op v) s c.part_of-last.result.bytes) c.read_operator.result) words c.read_operator.ensures))
+    subst (λ p. Answers argument_in (IsReadBy p s k.call.parts (argument_text t k).bytes) c.read_operator.result)
+    (sym c.in-Operator.is)
+    (subst (λ u. Answers argument_in (IsOperatorRead (is_add_exact (last_part k.call.parts))
+    (spelled_op (last_part k.call.parts)) s u.bytes) c.read_operator.result) text
+    (subst (λ v. Answers argument_in (IsOperatorRead (is_add_exact v) (spelled_op v) s c.part_of-last.result.bytes)
+    c.read_operator.result) words c.read_operator.ensures))

@@ -1,4 +1,5 @@
-use Rattle.std.proofs.Common.{◌≡◌, ◌+◌, ◌++◌, ◌<◌, ◌≤◌, [], length, drop, get_or, sym, ap, subst, ◌∙◌, append_assoc, append-nil}
+use Rattle.std.proofs.Common.{◌≡◌, ◌+◌, ◌++◌, ◌<◌, ◌≤◌, [], length, drop, get_or, sym, ap, subst, ◌∙◌, append_assoc}
+use Rattle.std.proofs.Common.{append-nil}
 use Rattle.std.proofs.lemmas.List.{drop_all}
 use Rattle.std.proofs.lemmas.Result.{err_from_is_err_and}
 use Rattle.job_language.specs.Table.{param_of}
@@ -14,10 +15,13 @@ returns-in_err-add_number-clause-refused c =
     let o = c.args.call.now.operation in
     let xs = (call_in (words_in c.args.text.now) c.args.call.now).parts in
     let i = c.loop-place.place in
-    let same : length xs ≡ length c.as_slice-count.result.now = length_parts (drop (c.args.call.now.opened + 1) (words_in c.args.text.now)) 0 c.args.call.now.ends.items ∙ ap length (sym c.as_slice-count.ensures.value) in
+    let same : length xs ≡ length c.as_slice-count.result.now =
+    length_parts (drop (c.args.call.now.opened + 1) (words_in c.args.text.now)) 0 c.args.call.now.ends.items
+    ∙ ap length (sym c.as_slice-count.ensures.value) in
     let lt : i < length xs = subst (λ n. i < n) (sym same) c.loop-place-test.true in
     let p = err_from_is_err_and c.from_residual.result c.from_residual.ensures.1 in
-    rw (p.1, p.2) (λ other. c.loop-place.invariant.0 ∙ numbers_here o (length xs) i xs c.in_err-add_number.field-0.0 lt (
+    rw (p.1, p.2) (λ other. c.loop-place.invariant.0
+    ∙ numbers_here o (length xs) i xs c.in_err-add_number.field-0.0 lt (
     ap (λ n. number_cause (param_of o n i) (get_or xs i [])) same
     ∙ ap (λ p. number_cause p (get_or xs i [])) (sym c.param_of-param.ensures)
     ∙ ap (number_cause c.param_of-param.result) (sym c.part_of.ensures.words)
@@ -28,7 +32,9 @@ loop-place-preserved c =
     let o = c.args.call.now.operation in
     let xs = (call_in (words_in c.args.text.now) c.args.call.now).parts in
     let i = c.loop-place.place in
-    let same : length xs ≡ length c.as_slice-count.result.now = length_parts (drop (c.args.call.now.opened + 1) (words_in c.args.text.now)) 0 c.args.call.now.ends.items ∙ ap length (sym c.as_slice-count.ensures.value) in
+    let same : length xs ≡ length c.as_slice-count.result.now =
+    length_parts (drop (c.args.call.now.opened + 1) (words_in c.args.text.now)) 0 c.args.call.now.ends.items
+    ∙ ap length (sym c.as_slice-count.ensures.value) in
     let lt : i < length xs = subst (λ n. i < n) (sym same) c.loop-place-test.true in
     let rest = numbers_of o (length xs) (i + 1) (drop (i + 1) xs) in (
       c.loop-place.invariant.0 ∙ numbers_more o (length xs) i xs lt (
@@ -51,8 +57,11 @@ returns-clause-ok c =
     let o = c.args.call.now.operation in
     let xs = (call_in (words_in c.args.text.now) c.args.call.now).parts in
     let i = c.loop-place.place in
-    let same : length xs ≡ length c.as_slice-count.result.now = length_parts (drop (c.args.call.now.opened + 1) (words_in c.args.text.now)) 0 c.args.call.now.ends.items ∙ ap length (sym c.as_slice-count.ensures.value) in
+    let same : length xs ≡ length c.as_slice-count.result.now =
+    length_parts (drop (c.args.call.now.opened + 1) (words_in c.args.text.now)) 0 c.args.call.now.ends.items
+    ∙ ap length (sym c.as_slice-count.ensures.value) in
     let far : length xs ≤ i = subst (λ n. n ≤ i) (sym same) c.loop-place-test.false in (
       c.loop-place.invariant.0 ∙ ap (λ v. first_cause (number_causes o (length xs) i v)) (drop_all i xs far),
-      sym (c.loop-place.invariant.1 ∙ ap (λ v. c.loop-place.numbers.items ++ numbers_of o (length xs) i v) (drop_all i xs far) ∙ append-nil c.loop-place.numbers.items),
+      sym (c.loop-place.invariant.1 ∙ ap (λ v. c.loop-place.numbers.items ++ numbers_of o (length xs) i v)
+          (drop_all i xs far) ∙ append-nil c.loop-place.numbers.items),
     )

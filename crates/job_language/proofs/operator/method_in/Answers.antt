@@ -10,7 +10,8 @@ pub returns-in-3 : goal.returns-in-3
 returns-in-3 c =
     let t = c.args.text.now in
     let is : c.len.result ≡ 3 = search rules in
-    c.method_of.ensures ∙ ap method_in ((λ i. c.word_at.ensures.word i ∷ c.word_at-in-3.ensures.word i ∷ c.word_at-in-3-2.ensures.word i ∷ []) ∙ three_words (words_in t) (sym (count_words t _ c.len.ensures) ∙ is))
+    c.method_of.ensures ∙ ap method_in ((λ i. c.word_at.ensures.word i ∷ c.word_at-in-3.ensures.word i
+    ∷ c.word_at-in-3-2.ensures.word i ∷ []) ∙ three_words (words_in t) (sym (count_words t _ c.len.ensures) ∙ is))
 
 pub returns-in_default : goal.returns-in_default
 returns-in_default c =

@@ -18,8 +18,10 @@ returns-in-Some c = λ other.
     let k = placed_in (words_in c.args.text.now) x in
     let job = c.args.job.now in
     let count : c.len.result ≡ length job.stages.items = omega (arith, c.len.ensures, job.stages.ok.0) in
-    let cause = sym c.in-Some.is ∙ c.stage_cause.ensures ∙ ap (stage_cause c.len.result) c.role_of.ensures ∙ ap (λ n. stage_cause n (role_of x.operation)) (count ∙ sym (length_stages job.stages.items)) in
-    next_refused (begun_of job) s t k c.in-Some.cause (subst (λ f. IsReadInTurn f s t k (Err c.in-Some.cause)) cause refl)
+    let cause = sym c.in-Some.is ∙ c.stage_cause.ensures ∙ ap (stage_cause c.len.result) c.role_of.ensures
+    ∙ ap (λ n. stage_cause n (role_of x.operation)) (count ∙ sym (length_stages job.stages.items)) in
+    next_refused (begun_of job) s t k c.in-Some.cause
+    (subst (λ f. IsReadInTurn f s t k (Err c.in-Some.cause)) cause refl)
 
 pub returns-in_err-part : goal.returns-in_err-part
 returns-in_err-part c =
@@ -30,7 +32,8 @@ returns-in_err-part c =
     let job = c.args.job.now in
     let p = err_from_is_err_and c.from_residual.result c.from_residual.ensures.1 in
     let count : c.len.result ≡ length job.stages.items = omega (arith, c.len.ensures, job.stages.ok.0) in
-    let none = sym c.in_default.is ∙ c.stage_cause.ensures ∙ ap (stage_cause c.len.result) c.role_of.ensures ∙ ap (λ n. stage_cause n (role_of x.operation)) (count ∙ sym (length_stages job.stages.items)) in
+    let none = sym c.in_default.is ∙ c.stage_cause.ensures ∙ ap (stage_cause c.len.result) c.role_of.ensures
+    ∙ ap (λ n. stage_cause n (role_of x.operation)) (count ∙ sym (length_stages job.stages.items)) in
     rw (p.1, p.2) (λ other. next_refused (begun_of job) s t k c.in_err-part.field-0.0
     (subst (λ f. IsReadInTurn f s t k (Err c.in_err-part.field-0.0)) none (c.in_err-part.ensures other)))
 
@@ -43,5 +46,7 @@ returns c =
     let job = c.args.job.now in
     let g = part_in c.in_ok-part.part in
     let count : c.len.result ≡ length job.stages.items = omega (arith, c.len.ensures, job.stages.ok.0) in
-    let none = sym c.in_default.is ∙ c.stage_cause.ensures ∙ ap (stage_cause c.len.result) c.role_of.ensures ∙ ap (λ n. stage_cause n (role_of x.operation)) (count ∙ sym (length_stages job.stages.items)) in
-    next_read (begun_of job) s t k g c.below_terminal.result (subst (λ f. IsReadInTurn f s t k (Ok g)) none c.in_ok-part.ensures) c.below_terminal.ensures
+    let none = sym c.in_default.is ∙ c.stage_cause.ensures ∙ ap (stage_cause c.len.result) c.role_of.ensures
+    ∙ ap (λ n. stage_cause n (role_of x.operation)) (count ∙ sym (length_stages job.stages.items)) in
+    next_read (begun_of job) s t k g c.below_terminal.result
+    (subst (λ f. IsReadInTurn f s t k (Ok g)) none c.in_ok-part.ensures) c.below_terminal.ensures

@@ -19,26 +19,44 @@ returns-in_default c =
     let lt = subst (λ n. at + 1 < n) (sym (length-words_of t.bytes t.tokens)) c.requires.in_range in
     let other : c.role_of-role.result ≡ role.Concatenation → ⊥ = search rules in
     let two_ : at + 1 + 1 ≡ at + 2 = omega arith in
-    let read = subst (λ f. MatchOption f (IsNoCallOf o (drop (at + 1 + 1) ws)) (λ ends. IsReadAs o (drop (at + 1 + 1) ws) ends.items)) c.in_default.is c.in_ok-ends.ensures in
-    begins_no_call ws at o lt c.requires.name c.requires.open (subst (λ n. IsNoCallOf o (drop n ws)) two_ read) (λ h. other (c.role_of-role.ensures ∙ h))
+    let read = subst (λ f. MatchOption f (IsNoCallOf o (drop (at + 1 + 1) ws))
+    (λ ends. IsReadAs o (drop (at + 1 + 1) ws) ends.items)) c.in_default.is c.in_ok-ends.ensures in
+    begins_no_call ws at o lt c.requires.name c.requires.open (subst (λ n. IsNoCallOf o (drop n ws)) two_ read)
+    (λ h. other (c.role_of-role.ensures ∙ h))
 
 pub width-requires : goal.width-requires
 width-requires c =
     let t = c.args.text.now in
     let o = c.args.operation in
     let ws = drop (c.args.at + 1 + 1) (words_in t) in
-    let read = subst (λ f. MatchOption f (IsNoCallOf o ws) (λ ends. IsReadAs o ws ends.items)) c.in-Some.is c.in_ok-ends.ensures in
-    subst (λ es. width es ≤ c.len-len.result) (sym c.deref.ensures.value) (omega (arith, c.len-len.ensures, length-words_of t.bytes t.tokens, length-drop (c.args.at + 1 + 1) (words_in t), (call_ends o ws c.in-Some.ends.items read).1))
+    let read = subst (λ f. MatchOption f (IsNoCallOf o ws) (λ ends. IsReadAs o ws ends.items)) c.in-Some.is
+    c.in_ok-ends.ensures in
+    subst (λ es. width es ≤ c.len-len.result) (sym c.deref.ensures.value)
+    (omega (
+      arith,
+      c.len-len.ensures,
+      length-words_of t.bytes t.tokens,
+      length-drop (c.args.at + 1 + 1) (words_in t),
+      (call_ends o ws c.in-Some.ends.items read).1,
+    ))
 
 pub overflow_add-to-2 : goal.overflow_add-to-2
 overflow_add-to-2 c =
     let t = c.args.text.now in
     let o = c.args.operation in
     let ws = drop (c.args.at + 1 + 1) (words_in t) in
-    let read = subst (λ f. MatchOption f (IsNoCallOf o ws) (λ ends. IsReadAs o ws ends.items)) c.in-Some.is c.in_ok-ends.ensures in
+    let read = subst (λ f. MatchOption f (IsNoCallOf o ws) (λ ends. IsReadAs o ws ends.items)) c.in-Some.is
+    c.in_ok-ends.ensures in
     let is : c.width.result ≡ width c.in-Some.ends.items = c.width.ensures ∙ ap width c.deref.ensures.value in
     let fits : Fits w64 c.len-len.result = search rules in
-    omega (arith, c.requires.in_range, c.len-len.ensures, length-words_of t.bytes t.tokens, length-drop (c.args.at + 1 + 1) (words_in t), (call_ends o ws c.in-Some.ends.items read).1)
+    omega (
+      arith,
+      c.requires.in_range,
+      c.len-len.ensures,
+      length-words_of t.bytes t.tokens,
+      length-drop (c.args.at + 1 + 1) (words_in t),
+      (call_ends o ws c.in-Some.ends.items read).1,
+    )
 
 pub returns : goal.returns
 returns c =
@@ -48,11 +66,13 @@ returns c =
     let at = c.args.at in
     let lt = subst (λ n. at + 1 < n) (sym (length-words_of t.bytes t.tokens)) c.requires.in_range in
     let two_ : at + 1 + 1 ≡ at + 2 = omega arith in
-    let read = subst (λ f. MatchOption f (IsNoCallOf o (drop (at + 1 + 1) ws)) (λ ends. IsReadAs o (drop (at + 1 + 1) ws) ends.items)) c.in-Some.is c.in_ok-ends.ensures in
+    let read = subst (λ f. MatchOption f (IsNoCallOf o (drop (at + 1 + 1) ws))
+    (λ ends. IsReadAs o (drop (at + 1 + 1) ws) ends.items)) c.in-Some.is c.in_ok-ends.ensures in
     let here = subst (λ n. IsReadAs o (drop n ws) c.in-Some.ends.items) two_ read in
     let is : c.width.result ≡ width c.in-Some.ends.items = c.width.ensures ∙ ap width c.deref.ensures.value in
     record {
-      begins = subst (λ n. Begins ws at (call (call_at o (drop (at + 1 + 1) ws) c.in-Some.ends.items)) (at + 2 + n)) (sym is) (begins_call ws at o c.in-Some.ends.items lt c.requires.name c.requires.open here);
+      begins = subst (λ n. Begins ws at (call (call_at o (drop (at + 1 + 1) ws) c.in-Some.ends.items)) (at + 2 + n))
+          (sym is) (begins_call ws at o c.in-Some.ends.items lt c.requires.name c.requires.open here);
       mark = ap mark.Call (sym c.role_of-role.ensures);
       opens = omega arith;
       stands = record { opened = lt; ends = read.ends };

@@ -27,4 +27,6 @@ returns-in-None c =
     let t = c.args.text.now in
     let ws = words_in t in
     let lt = subst (λ n. c.args.at < n) (sym (length-words_of t.bytes t.tokens)) c.requires.in_range in
-    subst IsNoPiece (sym (drop_more ws c.args.at bad lt ∙ ap (λ w. w ∷ drop (c.args.at + 1) ws) (sym c.word_at.ensures.word))) (c.in-None.ensures (drop (c.args.at + 1) ws))
+    subst IsNoPiece (sym (drop_more ws c.args.at bad lt
+    ∙ ap (λ w. w ∷ drop (c.args.at + 1) ws) (sym c.word_at.ensures.word)))
+    (c.in-None.ensures (drop (c.args.at + 1) ws))

@@ -7,4 +7,6 @@ use Rattle.job_language.proofs.read.first_name.Goals as goal
 
 pub returns : goal.returns
 returns c =
-    ap (λ w. w.now) c.unwrap_or.ensures ∙ unwrap_mapped (λ w. w.now) c.name_of.result _ ∙ ap (λ o. unwrap_or o []) (c.name_of.ensures ∙ ap (λ w. name_in (w ∷ [])) c.word_at.ensures.word) ∙ first_is (words_in c.args.text.now)
+    ap (λ w. w.now) c.unwrap_or.ensures ∙ unwrap_mapped (λ w. w.now) c.name_of.result _
+    ∙ ap (λ o. unwrap_or o []) (c.name_of.ensures ∙ ap (λ w. name_in (w ∷ [])) c.word_at.ensures.word)
+    ∙ first_is (words_in c.args.text.now)

@@ -5,4 +5,5 @@ use Rattle.job_language.specs.Verdicts.{earlier_of}
 use Rattle.job_language.proofs.scope.given.Given as goal
 
 abbrev pub invariant-loop-job : goal.invariant-loop-job
-invariant-loop-job l = given (map earlier_of (jobs_of l.jobs)) l.name ≡ given (map earlier_of (jobs_of (drop l.job-index l.jobs))) l.name
+invariant-loop-job l = given (map earlier_of (jobs_of l.jobs)) l.name
+    ≡ given (map earlier_of (jobs_of (drop l.job-index l.jobs))) l.name

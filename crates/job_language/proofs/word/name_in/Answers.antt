@@ -10,7 +10,8 @@ pub returns-in-1 : goal.returns-in-1
 returns-in-1 c =
     let t = c.args.text.now in
     let is : c.len.result ≡ 1 = search rules in
-    c.name_of.ensures ∙ ap (λ w. name_in (w ∷ [])) c.word_at.ensures.word ∙ ap name_in (one_word (words_in t) (sym (count_words t _ c.len.ensures) ∙ is))
+    c.name_of.ensures ∙ ap (λ w. name_in (w ∷ [])) c.word_at.ensures.word
+    ∙ ap name_in (one_word (words_in t) (sym (count_words t _ c.len.ensures) ∙ is))
 
 pub returns-in_default : goal.returns-in_default
 returns-in_default c =

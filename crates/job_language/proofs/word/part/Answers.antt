@@ -6,4 +6,6 @@ use Rattle.job_language.proofs.word.part.Goals as goal
 
 pub returns-clause-words : goal.returns-clause-words
 returns-clause-words c =
-    ap words_in (c.between.ensures no_token) ∙ part_words c.args.text.now c.args.opened c.args.from c.args.to no_token c.bytes-bytes.ensures.tokens c.requires.in_order c.requires.in_range
+    ap words_in (c.between.ensures no_token)
+    ∙ part_words c.args.text.now c.args.opened c.args.from c.args.to no_token c.bytes-bytes.ensures.tokens
+    c.requires.in_order c.requires.in_range

@@ -10,7 +10,8 @@ pub returns-in-1 : goal.returns-in-1
 returns-in-1 c =
     let t = c.args.text.now in
     let is : c.len.result ≡ 1 = search rules in
-    c.places_word.ensures ∙ ap (λ w. places_in (w ∷ [])) c.word_at.ensures.word ∙ ap places_in (one_word (words_in t) (sym (count_words t _ c.len.ensures) ∙ is))
+    c.places_word.ensures ∙ ap (λ w. places_in (w ∷ [])) c.word_at.ensures.word
+    ∙ ap places_in (one_word (words_in t) (sym (count_words t _ c.len.ensures) ∙ is))
 
 pub returns-in_default : goal.returns-in_default
 returns-in_default c =

@@ -4,4 +4,5 @@ use Rattle.std.specs.Prelude.{take_while}
 use Rattle.job_names.proofs.names.digits_of.Given as goal
 
 abbrev pub invariant-loop-at : goal.invariant-loop-at
-invariant-loop-at l = take_while is_ascii_digit l.text ≡ take l.at l.text ++ take_while is_ascii_digit (drop l.at l.text)
+invariant-loop-at l = take_while is_ascii_digit l.text
+    ≡ take l.at l.text ++ take_while is_ascii_digit (drop l.at l.text)

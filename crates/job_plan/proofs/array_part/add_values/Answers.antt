@@ -8,13 +8,16 @@ returns-in_ok-extend_from_slice-in-Some-clause-ok c =
     let pieces = c.args.pieces.now in
     let some_piece : 0 < pieces.len = c.in-Some.ensures.variant.0 refl in
     let last : suc (pieces.len - 1) ≡ length pieces.items = omega (arith, pieces.ok.0, some_piece) in
-    read_grows (λ (piece : Vec ℤ Global). piece.items) pieces.items (pieces.len - 1) c.in-Some.piece.now c.extend_from_slice.new.self c.args.values.now last c.in-Some.ensures.value c.in_ok-extend_from_slice-in-Some.ensures.items
+    read_grows (λ (piece : Vec ℤ Global). piece.items) pieces.items (pieces.len - 1) c.in-Some.piece.now
+    c.extend_from_slice.new.self c.args.values.now last c.in-Some.ensures.value
+    c.in_ok-extend_from_slice-in-Some.ensures.items
 
 pub returns-in_err-extend_from_slice-in-Some-clause-err : goal.returns-in_err-extend_from_slice-in-Some-clause-err
 returns-in_err-extend_from_slice-in-Some-clause-err c =
     let pieces = c.args.pieces.now in
     let some_piece : 0 < pieces.len = c.in-Some.ensures.variant.0 refl in
     let last : suc (pieces.len - 1) ≡ length pieces.items = omega (arith, pieces.ok.0, some_piece) in
-    let same = read_stays (λ (piece : Vec ℤ Global). piece.items) pieces.items (pieces.len - 1) c.in-Some.piece.now c.extend_from_slice.new.self last c.in-Some.ensures.value c.in_err-extend_from_slice-in-Some.ensures.items in
+    let same = read_stays (λ (piece : Vec ℤ Global). piece.items) pieces.items (pieces.len - 1) c.in-Some.piece.now
+    c.extend_from_slice.new.self last c.in-Some.ensures.value c.in_err-extend_from_slice-in-Some.ensures.items in
     let p = err_from_is_err_and c.from_residual.result c.from_residual.ensures.1 in
     rw p.1 same

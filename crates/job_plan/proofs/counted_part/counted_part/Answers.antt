@@ -12,7 +12,11 @@ returns c = λ env.
     let walk = walk_in c.args.source.now in
     let gs = stages_of c.args.segment.now.stages.list.items in
     let maps : AreMaps gs = rw c.deref-stages.ensures.value at (c.are_maps.ensures c.if-not-are_maps.false) in
-    let calm : AreFaultless true gs = rw c.deref-stages.ensures.value at (c.are_faultless.ensures c.if-not-are_faultless.false) in
-    let size : c.size-size.result ≡ length walk.items = omega (arith, c.size-size.ensures, c.if-size-gt-MAX_SOURCE_SIZE.false) in
-    counted_stands c.args.segment.now c.in-Fold.fold c.of_count-part.result c.args.window.from c.args.window.to walk c.within-count.result.1 c.piece_end.result env c.in-Fold.is maps calm
-    (c.within-count.ensures.count ∙ ap (span c.args.window.from c.args.window.to) size) c.piece_end.ensures c.of_count-part.ensures
+    let calm : AreFaultless true gs = rw c.deref-stages.ensures.value at
+    (c.are_faultless.ensures c.if-not-are_faultless.false) in
+    let size : c.size-size.result ≡ length walk.items =
+    omega (arith, c.size-size.ensures, c.if-size-gt-MAX_SOURCE_SIZE.false) in
+    counted_stands c.args.segment.now c.in-Fold.fold c.of_count-part.result c.args.window.from c.args.window.to walk
+    c.within-count.result.1 c.piece_end.result env c.in-Fold.is maps calm
+    (c.within-count.ensures.count ∙ ap (span c.args.window.from c.args.window.to) size) c.piece_end.ensures
+    c.of_count-part.ensures

@@ -18,7 +18,8 @@ returns-in-TakeWhile c = λ stage.
     let size = length_laid l.start l.places.now l.values.now in
     let few : k ≤ length l.values.now = count.ensures.within in
     subst (λ (r : SliceRest). IsTested (rest_of r) stage env xs k) (sym c.in-TakeWhile.is)
-    (is_front p stage env xs k (omega (arith, few, size)) (laid_pass l.start l.places.now l.values.now p env true k few count.ensures.passed)
+    (is_front p stage env xs k (omega (arith, few, size))
+    (laid_pass l.start l.places.now l.values.now p env true k few count.ensures.passed)
     (λ below. laid_stop l.start l.places.now l.values.now p env k count.ensures.stop (omega (arith, below, size))))
 
 pub returns-in-DropWhile : goal.returns-in-DropWhile
@@ -32,5 +33,6 @@ returns-in-DropWhile c = λ stage.
     let size = length_laid l.start l.places.now l.values.now in
     let few : k ≤ length l.values.now = count.ensures.within in
     subst (λ (r : SliceRest). IsTested (rest_of r) stage env xs k) (sym c.in-DropWhile.is)
-    (is_front p stage env xs k (omega (arith, few, size)) (laid_pass l.start l.places.now l.values.now p env true k few count.ensures.passed)
+    (is_front p stage env xs k (omega (arith, few, size))
+    (laid_pass l.start l.places.now l.values.now p env true k few count.ensures.passed)
     (λ below. laid_stop l.start l.places.now l.values.now p env k count.ensures.stop (omega (arith, below, size))))

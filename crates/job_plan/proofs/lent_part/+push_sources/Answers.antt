@@ -14,7 +14,8 @@ use Rattle.job_plan.proofs.lent_part.+push_sources.Goals as goal
 
 pub returns-in-None : goal.returns-in-None
 returns-in-None t c =
-    scanned_none c.args.part.now (stages_of c.args.cheap.stages.now) c.args.window.from c.args.window.to c.args.origin c.args.sources.now (no_items c.args.sources.now c.in-None.ensures.cases)
+    scanned_none c.args.part.now (stages_of c.args.cheap.stages.now) c.args.window.from c.args.window.to c.args.origin
+    c.args.sources.now (no_items c.args.sources.now c.in-None.ensures.cases)
 
 pub returns-in_ok-push_lent-in-Some : goal.returns-in_ok-push_lent-in-Some
 returns-in_ok-push_lent-in-Some t c =
@@ -23,5 +24,11 @@ returns-in_ok-push_lent-in-Some t c =
     let left = c.after-left.ensures in
     let zs = elements c.after-left.result.from c.after-left.result.to ts in
     let gs = stages_of c.args.cheap.stages.now in
-    let parts = first_part c.args.sources.now c.in-Some.source.now c.in-Some.later.now _ c.args.origin c.args.window.from c.args.window.to c.plain_size-size.result c.within-start.result.0 c.within-start.result.1 (search rules) c.requires.few c.plain_size-size.ensures c.within-start.ensures.start c.within-start.ensures.count c.items_of-items.ensures ∙ (λ i. ys ++ elements (sym left.from i) (sym left.to i) ts) in
-    on_ok_map c.push_sources.result (λ later. scanned_both c.args.part.now c.push_lent.new.self c.push_sources.new.part (left_by gs ys) (left_by gs zs) _ c.in_ok-push_lent-in-Some.ensures later (ap (left_by gs) parts ∙ left_both gs c.args.cheap.cheap ys zs)) c.push_sources.ensures
+    let parts = first_part c.args.sources.now c.in-Some.source.now c.in-Some.later.now _ c.args.origin
+    c.args.window.from c.args.window.to c.plain_size-size.result c.within-start.result.0 c.within-start.result.1
+    (search rules) c.requires.few c.plain_size-size.ensures c.within-start.ensures.start
+    c.within-start.ensures.count c.items_of-items.ensures
+    ∙ (λ i. ys ++ elements (sym left.from i) (sym left.to i) ts) in
+    on_ok_map c.push_sources.result (λ later. scanned_both c.args.part.now c.push_lent.new.self c.push_sources.new.part
+    (left_by gs ys) (left_by gs zs) _ c.in_ok-push_lent-in-Some.ensures later
+    (ap (left_by gs) parts ∙ left_both gs c.args.cheap.cheap ys zs)) c.push_sources.ensures

@@ -26,15 +26,21 @@ returns-clause-stands c = λ env.
     let same : c.in-Some.cheap.stages.now ≡ s.stages.list.items = c.in-Some.ensures ∙ c.deref.ensures.value in
     let plain : AreFaultless false gs = subst (λ ss. AreFaultless false (stages_of ss)) same c.in-Some.cheap.cheap in
     let n = number_after s.stages in
-    let none : c.none-part.result ≡ scan p.op p.range n nothing = c.none-part.ensures ∙ ap (λ m. scan p.op p.range m nothing) c.next.ensures in
+    let none : c.none-part.result ≡ scan p.op p.range n nothing =
+    c.none-part.ensures ∙ ap (λ m. scan p.op p.range m nothing) c.next.ensures in
     let plain_walk = c.in-Plain.plain in
     let vs = values_of (sources_of plain_walk.sources.now) in
     let l = length-placed 0 vs in
     let few : length (placed 0 vs) < 18446744073709551616 = omega (arith, l, plain_walk.few) in
     let w = c.args.source.now.window in
-    let here = ap (λ b. elements from to (elements w.from w.to (base_walk b).items)) c.in-Plain.is ∙ c.within-selected.ensures (placed 0 vs) few in
-    let pushed : c.push_sources.new.part ≡ scan p.op p.range n (append nothing (trace (left_by gs (elements from to t.items)) end.Done)) =
-    c.in_ok-push_sources.ensures ∙ (λ j. scan_append (none j) (trace (left_by (stages_of (same j)) (sym here j)) end.Done)) in
-    let whole : c.end_with.new.self ≡ scan p.op p.range n (trace (left_by gs (piece_of from to t).items) (piece_of from to t).ending) =
-    c.end_with.ensures ∙ (λ j. scan_append (pushed j) (trace [] c.piece_end.result)) ∙ ap (scan p.op p.range n) (piece_again gs from to t c.piece_end.result c.piece_end.ensures) in
+    let here = ap (λ b. elements from to (elements w.from w.to (base_walk b).items)) c.in-Plain.is
+    ∙ c.within-selected.ensures (placed 0 vs) few in
+    let pushed : c.push_sources.new.part
+    ≡ scan p.op p.range n (append nothing (trace (left_by gs (elements from to t.items)) end.Done)) =
+    c.in_ok-push_sources.ensures ∙ (λ j. scan_append (none j)
+    (trace (left_by (stages_of (same j)) (sym here j)) end.Done)) in
+    let whole : c.end_with.new.self ≡ scan p.op p.range n
+    (trace (left_by gs (piece_of from to t).items) (piece_of from to t).ending) =
+    c.end_with.ensures ∙ (λ j. scan_append (pushed j) (trace [] c.piece_end.result))
+    ∙ ap (scan p.op p.range n) (piece_again gs from to t c.piece_end.result c.piece_end.ensures) in
     lent_stands s p c.end_with.new.self (piece_of from to t) env c.in-Prefix.is plain whole

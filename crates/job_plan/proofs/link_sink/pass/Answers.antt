@@ -26,12 +26,21 @@ returns-clause-fed g c = λ begun xs took.
     let items = laid_items c.args.lanes.start c.args.lanes.places.now c.args.lanes.values.now in
     let cut = c.cut_of-cut.result in
     let win = take (cut.to - cut.from) (drop cut.from items) in
-    let here : HasPassed h f begun n next env (rest_of p.rest) passage.Open p.inner.value xs = subst (λ (q : Passage). HasPassed h f begun n next env (rest_of p.rest) q p.inner.value xs) c.in-Open.is took in
-    let on = passed_on h f begun n next env xs items win cut.end (rest_of p.rest) (rest_of cut.rest) here.0 c.hand_on.new.sink here.2 c.cut_of-cut.ensures.passes
-    c.in-Ok.fed c.after-passage.result (subst (λ (ys : List Item). IsFed h here.0 (piped c.args.junction.next (trace ys end.Done)) (Ok c.in-Ok.fed) c.hand_on.new.sink) c.part-part.ensures.items (c.in-Ok.ensures.fed here.0 (subst (λ (s : g.row.S.Denot). h s here.0) (sym c.deref_mut-inner.ensures.value) here.1))) c.in-Ok.ensures.flow c.after-passage.ensures in
-    let t : Passing g.row.S.Denot = record { rest = cut.rest; passage = c.after-passage.result; inner = record p.inner { value = c.hand_on.new.sink } } in
-    let has : Passing g.row.S.Denot → List Item → Type 0 = λ q zs. HasPassed h f begun n next env (rest_of q.rest) q.passage q.inner.value zs in
-    subst (λ (r : Fed). IsFed has xs (trace items end.Done) (Ok r) t) (sym c.answer.ensures) (answered has t xs items c.after-passage.result on)
+    let here : HasPassed h f begun n next env (rest_of p.rest) passage.Open p.inner.value xs =
+    subst (λ (q : Passage). HasPassed h f begun n next env (rest_of p.rest) q p.inner.value xs) c.in-Open.is took in
+    let on = passed_on h f begun n next env xs items win cut.end (rest_of p.rest) (rest_of cut.rest) here.0
+    c.hand_on.new.sink here.2 c.cut_of-cut.ensures.passes
+    c.in-Ok.fed c.after-passage.result (subst
+    (λ (ys : List Item). IsFed h here.0 (piped c.args.junction.next (trace ys end.Done)) (Ok c.in-Ok.fed)
+    c.hand_on.new.sink) c.part-part.ensures.items
+    (c.in-Ok.ensures.fed here.0 (subst (λ (s : g.row.S.Denot). h s here.0) (sym c.deref_mut-inner.ensures.value)
+    here.1))) c.in-Ok.ensures.flow c.after-passage.ensures in
+    let t : Passing g.row.S.Denot = record
+    { rest = cut.rest; passage = c.after-passage.result; inner = record p.inner { value = c.hand_on.new.sink } } in
+    let has : Passing g.row.S.Denot → List Item → Type 0 =
+    λ q zs. HasPassed h f begun n next env (rest_of q.rest) q.passage q.inner.value zs in
+    subst (λ (r : Fed). IsFed has xs (trace items end.Done) (Ok r) t) (sym c.answer.ensures)
+    (answered has t xs items c.after-passage.result on)
 
 pub returns-clause-all : goal.returns-clause-all
 returns-clause-all g c = λ begun xs took.
@@ -44,9 +53,15 @@ returns-clause-all g c = λ begun xs took.
     let items = laid_items c.args.lanes.start c.args.lanes.places.now c.args.lanes.values.now in
     let cut = c.cut_of-cut.result in
     let win = take (cut.to - cut.from) (drop cut.from items) in
-    let here : HasPassed h f begun n next env (rest_of p.rest) passage.Open p.inner.value xs = subst (λ (q : Passage). HasPassed h f begun n next env (rest_of p.rest) q p.inner.value xs) c.in-Open.is took in
-    passed_on h f begun n next env xs items win cut.end (rest_of p.rest) (rest_of cut.rest) here.0 c.hand_on.new.sink here.2 c.cut_of-cut.ensures.passes
-    c.in-Ok.fed c.after-passage.result (subst (λ (ys : List Item). IsFed h here.0 (piped c.args.junction.next (trace ys end.Done)) (Ok c.in-Ok.fed) c.hand_on.new.sink) c.part-part.ensures.items (c.in-Ok.ensures.fed here.0 (subst (λ (s : g.row.S.Denot). h s here.0) (sym c.deref_mut-inner.ensures.value) here.1))) c.in-Ok.ensures.flow c.after-passage.ensures
+    let here : HasPassed h f begun n next env (rest_of p.rest) passage.Open p.inner.value xs =
+    subst (λ (q : Passage). HasPassed h f begun n next env (rest_of p.rest) q p.inner.value xs) c.in-Open.is took in
+    passed_on h f begun n next env xs items win cut.end (rest_of p.rest) (rest_of cut.rest) here.0 c.hand_on.new.sink
+    here.2 c.cut_of-cut.ensures.passes
+    c.in-Ok.fed c.after-passage.result (subst
+    (λ (ys : List Item). IsFed h here.0 (piped c.args.junction.next (trace ys end.Done)) (Ok c.in-Ok.fed)
+    c.hand_on.new.sink) c.part-part.ensures.items
+    (c.in-Ok.ensures.fed here.0 (subst (λ (s : g.row.S.Denot). h s here.0) (sym c.deref_mut-inner.ensures.value)
+    here.1))) c.in-Ok.ensures.flow c.after-passage.ensures
 
 pub returns-in-Err-clause-fed : goal.returns-in-Err-clause-fed
 returns-in-Err-clause-fed g c = λ begun xs took.

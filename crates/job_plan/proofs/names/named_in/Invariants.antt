@@ -10,4 +10,5 @@ abbrev pub invariant-loop-name : goal.invariant-loop-name
 invariant-loop-name l =
     (goal.iterator-loop-name).can_next l.name-iterator ×
     (goal.iterator-loop-name).is_finite l.name-iterator ×
-    (l.named.items ++ all_placed (plan_names l.fn.before) (into_iter_items l.name-iterator) ≡ all_placed (plan_names l.fn.before) (names_in_job (job_of l.fn.job)))
+    (l.named.items ++ all_placed (plan_names l.fn.before) (into_iter_items l.name-iterator)
+    ≡ all_placed (plan_names l.fn.before) (names_in_job (job_of l.fn.job)))

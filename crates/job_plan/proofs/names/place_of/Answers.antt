@@ -11,5 +11,6 @@ pub returns-clause-value : goal.returns-clause-value
 returns-clause-value c =
     let name = c.args.name.now in
     let found : c.position.result ≡ position (λ (j : JobPlan). pointwise nat_eq j.name name) c.args.jobs.now =
-    position_from_yields_List (λ (j : JobPlan). pointwise nat_eq j.name name) _ _ c.position.result c.position.ensures.ran (YieldsList-from_slice _ c.iter.ensures.rest) (λ x b q k. search (rules, tests)) in
+    position_from_yields_List (λ (j : JobPlan). pointwise nat_eq j.name name) _ _ c.position.result
+    c.position.ensures.ran (YieldsList-from_slice _ c.iter.ensures.rest) (λ x b q k. search (rules, tests)) in
     found ∙ placed_at c.args.jobs.now name

@@ -15,5 +15,6 @@ feed-requires-clause-begun g c =
       c.requires.next,
       c.next.ensures ∙ c.requires.stage,
       c.requires.env,
-      begun_as h f d k.rest k.stage k.next k.env c.of.result b rest (passed_first h f d k.stage k.next k.env c.of.result b begun c.of.ensures),
+      begun_as h f d k.rest k.stage k.next k.env c.of.result b rest
+          (passed_first h f d k.stage k.next k.env c.of.result b begun c.of.ensures),
     )

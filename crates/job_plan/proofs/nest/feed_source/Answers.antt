@@ -10,7 +10,8 @@ returns-then-has_enough g c =
     let enough = sym c.has_enough.ensures ∙ ap flow_of c.if-has_enough.true in
     let no_items : List Item = [] in
     if_ok_map _ _ c.close.result
-    (λ made closed. none_fed (g.S.Closing.stands made) (line_in c.args.line) c.args.line.env.now (walk_in c.args.source.now) (λ u. closed enough no_items u c.requires.begun))
+    (λ made closed. none_fed (g.S.Closing.stands made) (line_in c.args.line) c.args.line.env.now
+    (walk_in c.args.source.now) (λ u. closed enough no_items u c.requires.begun))
     c.close.ensures.enough
 
 pub returns-in-More : goal.returns-in-More
@@ -19,7 +20,8 @@ returns-in-More g c =
     let fed = c.in_ok-feed.ensures.fed no_items c.requires.begun in
     let given = rw c.in-More.is at fed in
     if_ok_map _ _ c.close-in-More.result
-    (λ made closed. more_fed (g.S.Closing.stands made) (line_in c.args.line) c.args.line.env.now (walk_in c.args.source.now) c.end.result c.end.ensures given.1 (closed _ given.0))
+    (λ made closed. more_fed (g.S.Closing.stands made) (line_in c.args.line) c.args.line.env.now
+    (walk_in c.args.source.now) c.end.result c.end.ensures given.1 (closed _ given.0))
     c.close-in-More.ensures.closed
 
 pub returns-in-Fault : goal.returns-in-Fault
@@ -28,7 +30,8 @@ returns-in-Fault g c =
     let fed = c.in_ok-feed.ensures.fed no_items c.requires.begun in
     let given = rw c.in-Fault.is at fed in
     if_ok_map _ _ c.close-in-Fault.result
-    (λ made closed. fault_fed (g.S.Closing.stands made) (line_in c.args.line) c.args.line.env.now (walk_in c.args.source.now) c.in-Fault.fault given.1 (closed _ given.0))
+    (λ made closed. fault_fed (g.S.Closing.stands made) (line_in c.args.line) c.args.line.env.now
+    (walk_in c.args.source.now) c.in-Fault.fault given.1 (closed _ given.0))
     c.close-in-Fault.ensures.closed
 
 pub returns-in-Enough : goal.returns-in-Enough
@@ -38,5 +41,6 @@ returns-in-Enough g c =
     let given = rw c.in-Enough.is at fed in
     let flow = rw c.in-Enough.is at c.in_ok-feed.ensures.flow in
     if_ok_map _ _ c.close-in-Enough.result
-    (λ made closed. enough_fed (g.S.Closing.stands made) (line_in c.args.line) c.args.line.env.now (walk_in c.args.source.now) given.0 (λ u. closed flow _ u given.2))
+    (λ made closed. enough_fed (g.S.Closing.stands made) (line_in c.args.line) c.args.line.env.now
+    (walk_in c.args.source.now) given.0 (λ u. closed flow _ u given.2))
     c.close-in-Enough.ensures.enough

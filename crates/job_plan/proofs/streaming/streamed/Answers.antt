@@ -8,5 +8,6 @@ returns-clause-stands c =
     let leg = c.args.leg.now in
     let env = c.args.walked.env.now in
     if_ok_map _ _ c.nested.result
-    (λ part on. stands_after (segment_in leg.last) env c.first-none.result part (linked (leg_in leg).links env (walk_in c.args.walked.source)) c.first-none.ensures.stands on)
+    (λ part on. stands_after (segment_in leg.last) env c.first-none.result part
+    (linked (leg_in leg).links env (walk_in c.args.walked.source)) c.first-none.ensures.stands on)
     c.nested.ensures

@@ -22,7 +22,8 @@ returns-clause-fed g c = λ xs took.
     let from = g.P.StartBrand.from in
     let s = c.feed_stretches.new.sink in
     let stays = c.if-looking.false in
-    fed_as (λ (l : Looking g.row.P.Denot g.row.S.Denot g.row.W.Denot) (ys : List Item). HasLooked h g.W.Stop.decides decides from l.from l.stop.now l.has_left l.inner ys) h s s.inner
+    fed_as (λ (l : Looking g.row.P.Denot g.row.S.Denot g.row.W.Denot) (ys : List Item). HasLooked h g.W.Stop.decides
+    decides from l.from l.stop.now l.has_left l.inner ys) h s s.inner
     (λ ys looked. still_taken decides from (h s.inner ys) s.has_left stays looked.2) xs _ (Ok c.in_ok-fed.fed)
     (c.in_ok-fed.ensures.fed stays xs (c.requires.from, c.requires.decides, took))
 

@@ -10,7 +10,8 @@ loop-next-init g c = record {
   after = omega arith;
   within = c.requires.ordered;
   wants = c.requires.wants;
-  fed = none_walked g.S.LongSink.has_taken c.args.line (walk_in c.args.source.now).items c.args.window.from c.args.sink.now;
+  fed = none_walked g.S.LongSink.has_taken c.args.line (walk_in c.args.source.now).items c.args.window.from
+      c.args.sink.now;
 }
 
 pub returns-in_default : goal.returns-in_default
@@ -22,9 +23,12 @@ returns-in_default g c =
     let left = c.saturating_sub.ensures in
     let before : next ≤ c.end_of-end.result = omega (arith, test, left) in
     let low = c.loop-next.invariant.after in
-    let walked = ended_walked h c.args.line items c.args.window.from next c.args.window.to c.in_ok-ended.ended c.args.sink.now c.feed.new.sink
-    (omega (arith, low)) (in_order c.end_of-end.result next c.args.window.to c.end_of-end.ensures before) c.in_default.not-More
-    (more_walked h c.args.line items c.args.window.from c.loop-next.position (Some next) c.in_ok-ended.ended c.args.sink.now c.loop-next.sink c.feed.new.sink
+    let walked = ended_walked h c.args.line items c.args.window.from next c.args.window.to c.in_ok-ended.ended
+    c.args.sink.now c.feed.new.sink
+    (omega (arith, low)) (in_order c.end_of-end.result next c.args.window.to c.end_of-end.ensures before)
+    c.in_default.not-More
+    (more_walked h c.args.line items c.args.window.from c.loop-next.position (Some next) c.in_ok-ended.ended
+    c.args.sink.now c.loop-next.sink c.feed.new.sink
     low (omega arith) c.loop-next.invariant.fed c.in_ok-ended.ensures.fed) in record {
       fed = λ stays. walked;
       flow = λ stays. c.in_ok-ended.ensures.flow;
@@ -42,7 +46,8 @@ returns-then-leaves g c =
       fed = λ stays. absurd (true≢false (sym has_left ∙ stays));
       flow = λ stays. absurd (true≢false (sym has_left ∙ stays));
       left = λ xs took.
-          let walked = more_walked h c.args.line (walk_in c.args.source.now).items c.args.window.from c.loop-next.position (Some next) fed.More c.args.sink.now c.loop-next.sink c.feed.new.sink
+          let walked = more_walked h c.args.line (walk_in c.args.source.now).items c.args.window.from
+          c.loop-next.position (Some next) fed.More c.args.sink.now c.loop-next.sink c.feed.new.sink
           low (omega arith) c.loop-next.invariant.fed took_more xs took in
           (_, c.leaves.ensures.taken _ walked.0);
       refused = tt;
@@ -61,7 +66,9 @@ loop-next-preserved g c =
       within = in_order c.end_of-end.result next c.args.window.to c.end_of-end.ensures before;
       wants = c.leaves.ensures.wants c.if-leaves.false;
       fed = λ xs took.
-          let walked = more_walked g.S.LongSink.has_taken c.args.line (walk_in c.args.source.now).items c.args.window.from c.loop-next.position (Some next) fed.More c.args.sink.now c.loop-next.sink c.feed.new.sink
+          let walked = more_walked g.S.LongSink.has_taken c.args.line (walk_in c.args.source.now).items
+          c.args.window.from c.loop-next.position (Some next) fed.More c.args.sink.now c.loop-next.sink
+          c.feed.new.sink
           low (omega arith) c.loop-next.invariant.fed took_more xs took in
           (c.leaves.ensures.taken _ walked.0, walked.1);
     }
@@ -69,8 +76,10 @@ loop-next-preserved g c =
 pub returns : goal.returns
 returns g c =
     let h = g.S.LongSink.has_taken in
-    let walked = more_walked h c.args.line (walk_in c.args.source.now).items c.args.window.from c.loop-next.position c.args.window.to c.in_ok-fed.fed c.args.sink.now c.loop-next.sink c.feed-2.new.sink
-    c.loop-next.invariant.after c.loop-next.invariant.within c.loop-next.invariant.fed c.in_ok-fed.ensures.fed in record {
+    let walked = more_walked h c.args.line (walk_in c.args.source.now).items c.args.window.from c.loop-next.position
+    c.args.window.to c.in_ok-fed.fed c.args.sink.now c.loop-next.sink c.feed-2.new.sink
+    c.loop-next.invariant.after c.loop-next.invariant.within c.loop-next.invariant.fed c.in_ok-fed.ensures.fed in
+    record {
       fed = λ stays. walked;
       flow = λ stays. c.in_ok-fed.ensures.flow;
       left = λ xs took. some_taken h xs _ (Ok c.in_ok-fed.fed) c.feed-2.new.sink (walked xs took);

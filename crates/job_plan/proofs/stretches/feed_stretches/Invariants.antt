@@ -15,7 +15,8 @@ invariant-loop-next g l =
       after : l.window.from ≤ l.position;
       within : IsNotAfter l.position l.window.to;
       wants : g.S.LongSink.flow l.sink ≡ flow.More;
-      fed : IsWalked g.S.LongSink.has_taken (λ ys. piped l.line (trace ys end.Done)) (elements l.window.from (Some l.position) (walk_in l.source).items) l.initial.sink fed.More l.sink;
+      fed : IsWalked g.S.LongSink.has_taken (λ ys. piped l.line (trace ys end.Done))
+          (elements l.window.from (Some l.position) (walk_in l.source).items) l.initial.sink fed.More l.sink;
     }
 
 abbrev pub decreases-loop-next : goal.decreases-loop-next

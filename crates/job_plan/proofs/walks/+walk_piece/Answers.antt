@@ -8,8 +8,10 @@ use Rattle.job_plan.proofs.walks.+walk_piece.Goals as goal
 pub returns-then-is_settled : goal.returns-then-is_settled
 returns-then-is_settled t c =
     let middle = c.middle_of-middle.result in
-    settled_piece (segment_in c.args.leg.now.last) c.args.walked.env.now c.in_ok-left-in-Node.left (walk_in c.args.walked.source) c.args.window.from middle c.args.window.to
-    c.middle_of-middle.ensures.not_before (not_after middle c.args.window.to c.middle_of-middle.ensures.not_after) (sym c.is_settled.ensures ∙ c.if-is_settled.true) c.in_ok-left-in-Node.ensures
+    settled_piece (segment_in c.args.leg.now.last) c.args.walked.env.now c.in_ok-left-in-Node.left
+    (walk_in c.args.walked.source) c.args.window.from middle c.args.window.to
+    c.middle_of-middle.ensures.not_before (not_after middle c.args.window.to c.middle_of-middle.ensures.not_after)
+    (sym c.is_settled.ensures ∙ c.if-is_settled.true) c.in_ok-left-in-Node.ensures
 
 pub returns-in-Ok : goal.returns-in-Ok
 returns-in-Ok t c =
@@ -19,4 +21,5 @@ returns-in-Ok t c =
     let middle = c.middle_of-middle.result in
     merged_piece s env c.in-Ok.part source c.args.window.from middle c.args.window.to
     c.middle_of-middle.ensures.not_before (not_after middle c.args.window.to c.middle_of-middle.ensures.not_after)
-    (c.in-Ok.ensures.ok s env (piece_of c.args.window.from (Some middle) source) (piece_of middle c.args.window.to source) c.in_ok-left-in-Node.ensures c.in_ok-right-in-Node.ensures)
+    (c.in-Ok.ensures.ok s env (piece_of c.args.window.from (Some middle) source)
+    (piece_of middle c.args.window.to source) c.in_ok-left-in-Node.ensures c.in_ok-right-in-Node.ensures)

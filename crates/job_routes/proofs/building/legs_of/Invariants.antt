@@ -12,7 +12,8 @@ invariant-loop-stage l =
     (goal.iterator-loop-stage).can_next l.stage-iterator ×
     (goal.iterator-loop-stage).is_finite l.stage-iterator ×
     ((env : Numbers) (ss : List AbstractPlainSource)
-    → after_stages (number_after l.begun.stages) (job_stages_of (into_iter_items l.stage-iterator)) env (begun_walk l.begun env ss) ≡ after_stages 1 (job_stages_of l.fn.stages.items) env (source_walk ss)) ×
+    → after_stages (number_after l.begun.stages) (job_stages_of (into_iter_items l.stage-iterator)) env
+    (begun_walk l.begun env ss) ≡ after_stages 1 (job_stages_of l.fn.stages.items) env (source_walk ss)) ×
     (number_after l.begun.stages + length (into_iter_items l.stage-iterator) ≡ suc (length l.fn.stages.items)) ×
     (length l.begun.links.items + length (into_iter_items l.stage-iterator) ≤ 32) ×
     (into_iter_len l.stage-iterator ≡ length (into_iter_items l.stage-iterator)) ×

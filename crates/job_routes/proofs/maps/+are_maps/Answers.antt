@@ -14,5 +14,6 @@ pub returns-in-Some-Map-default : goal.returns-in-Some-Map-default
 returns-in-Some-Map-default t c = λ yes.
     let s = c.in-Some-Map-default in
     let split : c.args.stages.now ≡ s.field-0-0.now ∷ s.later.now = search rules in
-    let is : stages_of c.args.stages.now ≡ map (long_of s.field-0-0-0) ∷ stages_of s.later.now = ap stages_of split ∙ ap (λ g. stage_of g ∷ stages_of s.later.now) s.field-0-0-is in
+    let is : stages_of c.args.stages.now ≡ map (long_of s.field-0-0-0) ∷ stages_of s.later.now =
+    ap stages_of split ∙ ap (λ g. stage_of g ∷ stages_of s.later.now) s.field-0-0-is in
     subst AreMaps (sym is) (more_maps (long_of s.field-0-0-0) (stages_of s.later.now) (c.are_maps.ensures yes))

@@ -13,5 +13,7 @@ returns-then-are_faultless t c = λ yes.
     let g = stage_of c.in-Some.stage.now in
     let split : c.args.stages.now ≡ c.in-Some.stage.now ∷ c.in-Some.later.now = search rules in
     let plain : stage_is_placeless (item g) ≡ true = search rules in
-    let calm = subst (λ (ss : List Stage). AreFaultless true (stages_of (take 1 ss))) split (c.are_faultless.ensures c.if-are_faultless.true) in
-    subst (λ (ss : List Stage). IgnorePlaces (stages_of ss)) (sym split) (more_ignore g (stages_of c.in-Some.later.now) plain calm (c.ignore_places.ensures yes))
+    let calm = subst (λ (ss : List Stage). AreFaultless true (stages_of (take 1 ss))) split
+    (c.are_faultless.ensures c.if-are_faultless.true) in
+    subst (λ (ss : List Stage). IgnorePlaces (stages_of ss)) (sym split)
+    (more_ignore g (stages_of c.in-Some.later.now) plain calm (c.ignore_places.ensures yes))

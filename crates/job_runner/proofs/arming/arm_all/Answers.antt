@@ -10,7 +10,8 @@ loop-done-preserved g c =
     let has = rw c.in-Some.is at c.in_ok-later.ensures.has in
     let n = c.loop-done.invariant.1 in
     let armed = c.arm_one.new.armed in
-    let job : c.jobs-count.result - 1 - c.loop-done.done ≡ c.jobs-count.result - (c.loop-done.done + 1) = omega arith in (
+    let job : c.jobs-count.result - 1 - c.loop-done.done ≡ c.jobs-count.result - (c.loop-done.done + 1) =
+    omega arith in (
       table,
       omega arith,
       subst (λ k. HasStarts k armed.starts.items (all_waiting armed.waiting.items) (view_of c.in-Some.later)) job has,

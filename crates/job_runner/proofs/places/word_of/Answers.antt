@@ -10,4 +10,5 @@ returns-in-Some g c = λ small.
     let a = c.word_after.ensures small in
     let same : p.job ≡ c.args.job = c.if-of_job-job.true in
     let first : p.first ≡ first_word last c.args.job = p.first_is a.1 ∙ ap (first_word last) same in
-    ap (pair_at last g.S.JobLegs.run.jobs) (a.0 ∙ ap (λ n. n + c.args.leg) first) ∙ word_at last g.S.JobLegs.run.jobs c.args.job c.args.leg c.requires.job c.requires.leg
+    ap (pair_at last g.S.JobLegs.run.jobs) (a.0 ∙ ap (λ n. n + c.args.leg) first)
+    ∙ word_at last g.S.JobLegs.run.jobs c.args.job c.args.leg c.requires.job c.requires.leg

@@ -12,5 +12,9 @@ loop-job-preserved g c =
     let items = c.in_ok-push.ensures.items in
     let l = ap length items in
     let s = length_snoc so_far a in
-    let at : c.loop-job.job ≡ 0 + length so_far = omega arith in
-    (omega arith, subst (λ l. AreAnswers g.S.JobLegs.run.is_answer 0 l) (sym items) (more_answers g.S.JobLegs.run.is_answer 0 so_far a c.loop-job.invariant.1 (subst (λ j. g.S.JobLegs.run.is_answer j a) at c.in_ok-answer.ensures)))
+    let at : c.loop-job.job ≡ 0 + length so_far = omega arith in (
+      omega arith,
+      subst (λ l. AreAnswers g.S.JobLegs.run.is_answer 0 l) (sym items)
+          (more_answers g.S.JobLegs.run.is_answer 0 so_far a c.loop-job.invariant.1
+          (subst (λ j. g.S.JobLegs.run.is_answer j a) at c.in_ok-answer.ensures)),
+    )

@@ -9,6 +9,8 @@ invariant_of-begun g c =
     let side = c.args.side in
     let p = side.half.place in
     record {
-      has = kept_back p.tag.job side.half.seat t.result.0 p side.piece.known (t.ensures.seat.0 ∙ side.can.can_hand.table) side.can.can_hand side.top side.knows (at_some _ t.result.1 t.ensures.kept c.in-Some.part c.in-Some.is);
+      has = kept_back p.tag.job side.half.seat t.result.0 p side.piece.known
+          (t.ensures.seat.0 ∙ side.can.can_hand.table) side.can.can_hand side.top side.knows
+          (at_some _ t.result.1 t.ensures.kept c.in-Some.part c.in-Some.is);
       known = side.piece.known;
     }

@@ -12,7 +12,10 @@ use Rattle.job_table.proofs.plan_parts.job_answer.Goals as goal
 pub returns-in-Some-clause-some : goal.returns-in-Some-clause-some
 returns-in-Some-clause-some c = λ chain same numbers stands.
     let o = c.in-Some.outcome in
-    let ends : (s : AbstractSegment) (t : Trace) → StandsFor s chain.numbers c.args.part t → o ≡ outcome_of s chain.numbers t =
-    subst (λ (e : Numbers). (s : AbstractSegment) (t : Trace) → StandsFor s e c.args.part t → o ≡ outcome_of s e t) (sym numbers) (rw c.in-Some.is at c.in_ok-outcome.ensures.some) in
+    let ends : (s : AbstractSegment) (t : Trace) → StandsFor s chain.numbers c.args.part t
+    → o ≡ outcome_of s chain.numbers t =
+    subst (λ (e : Numbers). (s : AbstractSegment) (t : Trace) → StandsFor s e c.args.part t → o ≡ outcome_of s e t)
+    (sym numbers) (rw c.in-Some.is at c.in_ok-outcome.ensures.some) in
     c.without_fault.ensures
-    ∙ ap (instead_of_fault (plan_in c.args.plan.now).fallback) (c.answer.ensures ∙ last_answer chain (last_leg chain.legs) c.args.part o ends refl stands)
+    ∙ ap (instead_of_fault (plan_in c.args.plan.now).fallback)
+    (c.answer.ensures ∙ last_answer chain (last_leg chain.legs) c.args.part o ends refl stands)

@@ -12,7 +12,8 @@ use Rattle.job_table.proofs.SharedPlanLemmas.{jobs_send, jobs_sync, part_send, s
 use Rattle.job_table.proofs.planned.run_as.Goals as goal
 
 pub returns : goal.returns
-returns g c = planned_jobs (λ (v : Vec Answer Global). v.items) c.args.plan.now.jobs.items g.P.PlanBrand.jobs c.requires.planned c.run_all.result c.run_all.ensures.count c.run_all.ensures.each
+returns g c = planned_jobs (λ (v : Vec Answer Global). v.items) c.args.plan.now.jobs.items g.P.PlanBrand.jobs
+    c.requires.planned c.run_all.result c.run_all.ensures.count c.run_all.ensures.each
 
 pub run_all-requires-send-S : goal.run_all-requires-send-S
 run_all-requires-send-S g c = λ κs within.
@@ -28,7 +29,9 @@ pub run_all-requires-send-S-Part : goal.run_all-requires-send-S-Part
 run_all-requires-send-S-Part g c = λ κs within. param_send 3 _ (arg_send _ no (parts.the_row _) (part_send _))
 
 pub run_all-requires-send-S-Source : goal.run_all-requires-send-S-Source
-run_all-requires-send-S-Source g c = λ κs within. param_send 4 _ (arg_send _ no (given_walks.the_row (record { mir = static; lft = _ })) (source_send _))
+run_all-requires-send-S-Source g c = λ κs within. param_send 4 _
+    (arg_send _ no (given_walks.the_row (record { mir = static; lft = _ })) (source_send _))
 
 pub run_all-requires-sync-S-Source : goal.run_all-requires-sync-S-Source
-run_all-requires-sync-S-Source g c = λ κs within. param_sync 4 _ (arg_sync _ no (given_walks.the_row (record { mir = static; lft = _ })) (source_sync _))
+run_all-requires-sync-S-Source g c = λ κs within. param_sync 4 _
+    (arg_sync _ no (given_walks.the_row (record { mir = static; lft = _ })) (source_sync _))

@@ -13,7 +13,8 @@ returns-in-Ok-parse_operands-clause-ok c =
     let o = c.in-Ok.opened in
     let vs = c.in-Ok-parse_operands.operands in
     let is : stream_at ws ≡ Ok o = sym c.parse_source.ensures ∙ c.in-Ok.is in
-    let a : ArePosted o.source (drop o.count ws) vs.items = subst (λ v. ArePosted o.source v vs.items) c.after.ensures.lexemes c.in-Ok-parse_operands.ensures.ok in
+    let a : ArePosted o.source (drop o.count ws) vs.items =
+    subst (λ v. ArePosted o.source v vs.items) c.after.ensures.lexemes c.in-Ok-parse_operands.ensures.ok in
     (operands o.source a.0, stream_ok ws o a.0 is a.1, (refl, a.1.count, a.2))
 
 pub returns-in-Err-At-clause-stops : goal.returns-in-Err-At-clause-stops
@@ -21,9 +22,13 @@ returns-in-Err-At-clause-stops c =
     let ws = c.args.words.now in
     let o = c.in-Ok.opened in
     let is : stream_at ws ≡ Ok o = sym c.parse_source.ensures ∙ c.in-Ok.is in
-    let stop : IsStop (Operands o.source) (drop o.count ws) c.in-Err-At.field-0 = subst (λ v. IsStop (Operands o.source) v c.in-Err-At.field-0) c.after.ensures.lexemes c.in-Err-At.ensures.stops in
-    let stops : StopsAt (Operands o.source) (drop o.count ws) c.in-Err-At.place = subst (IsStop (Operands o.source) (drop o.count ws)) c.in-Err-At.field-0-is stop in
+    let stop : IsStop (Operands o.source) (drop o.count ws) c.in-Err-At.field-0 =
+    subst (λ v. IsStop (Operands o.source) v c.in-Err-At.field-0) c.after.ensures.lexemes
+    c.in-Err-At.ensures.stops in
+    let stops : StopsAt (Operands o.source) (drop o.count ws) c.in-Err-At.place =
+    subst (IsStop (Operands o.source) (drop o.count ws)) c.in-Err-At.field-0-is stop in
     stops_in_operands ws o c.in-Err-At.place is stops
 
 pub returns-in-Err-clause-stops : goal.returns-in-Err-clause-stops
-returns-in-Err-clause-stops c = stops_in_front c.args.words.now c.in-Err.place (sym c.parse_source.ensures ∙ c.in-Err.is)
+returns-in-Err-clause-stops c = stops_in_front c.args.words.now c.in-Err.place
+    (sym c.parse_source.ensures ∙ c.in-Err.is)

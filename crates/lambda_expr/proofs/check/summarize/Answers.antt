@@ -13,4 +13,6 @@ loop-step-preserved c =
     let next = get_or c.args.steps.now c.loop-step.step-index Ternary in
     c.in_ok-push.ensures.items
     ∙ c.follow-summary.ensures (summary_steps p [] front) c.loop-step.invariant
-    ∙ ap stacked (sym (ap (summary_steps p []) (take_more c.args.steps.now c.loop-step.step-index Ternary c.loop-step-test.true) ∙ summary_append p [] front next))
+    ∙ ap stacked (sym (ap (summary_steps p [])
+    (take_more c.args.steps.now c.loop-step.step-index Ternary c.loop-step-test.true)
+    ∙ summary_append p [] front next))

@@ -15,4 +15,6 @@ loop-step-preserved c =
     ap operands_of c.in_ok-push.ensures.items
     ∙ operands_of_append c.follow.new.stack.items c.in_ok-operand.operand
     ∙ c.in_ok-operand.ensures (typed_steps h [] front) c.loop-step.invariant
-    ∙ ap stacked (sym (ap (typed_steps h []) (take_more c.args.steps.now c.loop-step.step-index Ternary c.loop-step-test.true) ∙ typed_append h [] front next))
+    ∙ ap stacked (sym (ap (typed_steps h [])
+    (take_more c.args.steps.now c.loop-step.step-index Ternary c.loop-step-test.true)
+    ∙ typed_append h [] front next))

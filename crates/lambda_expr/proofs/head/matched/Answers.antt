@@ -14,7 +14,8 @@ returns-then-ne c =
     let ws = c.args.words.now in
     let misfit : mark_of (get_or ws at word.Other) ≢ Some (get_or ps at mark.Open) = search rules in
     ⊎_elim
-    (λ (lt : at < length ws). matched_stop ps ws at mark.Open word.Other c.loop-at-test.true lt misfit c.loop-at.invariant)
+    (λ (lt : at < length ws). matched_stop ps ws at mark.Open word.Other c.loop-at-test.true lt misfit
+    c.loop-at.invariant)
     (λ (le : length ws ≤ at). matched_words ps ws at le c.loop-at.invariant)
     (order at (length ws))
 
@@ -24,7 +25,9 @@ loop-at-preserved c =
     let ps = c.args.pattern.now in
     let ws = c.args.words.now in
     let fit : mark_of (get_or ws at word.Other) ≡ Some (get_or ps at mark.Open) = search rules in
-    let in_words : at < length ws = ⊎_elim (λ (lt : at < length ws). lt) (λ (le : length ws ≤ at). absurd (let e = ap mark_of (sym (get_or_past ws at word.Other le)) ∙ fit in cc)) (order at (length ws)) in
+    let in_words : at < length ws = ⊎_elim (λ (lt : at < length ws). lt)
+    (λ (le : length ws ≤ at). absurd (let e = ap mark_of (sym (get_or_past ws at word.Other le)) ∙ fit in cc))
+    (order at (length ws)) in
     matched_on ps ws at mark.Open word.Other c.loop-at-test.true in_words fit c.loop-at.invariant
 
 pub returns : goal.returns

@@ -8,5 +8,7 @@ use Rattle.lambda_expr.proofs.lexeme.first_name.Goals as goal
 pub returns : goal.returns
 returns c =
     let t = c.args.text.now in
-    let past = subst (λ n. n ≤ c.loop-at.at) (c.len-at-end.ensures ∙ sym (length-words_of t.bytes t.tokens)) c.loop-at-test.false in
-    sym (c.loop-at.invariant ∙ ap (first_name c.args.cells (option_copied c.args.taken)) (drop_all c.loop-at.at (words_in t) past))
+    let past = subst (λ n. n ≤ c.loop-at.at) (c.len-at-end.ensures ∙ sym (length-words_of t.bytes t.tokens))
+    c.loop-at-test.false in
+    sym (c.loop-at.invariant ∙ ap (first_name c.args.cells (option_copied c.args.taken))
+    (drop_all c.loop-at.at (words_in t) past))

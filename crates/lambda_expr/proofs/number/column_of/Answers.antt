@@ -12,10 +12,13 @@ returns-in-Some c =
     let lookup = c.in-Some.ensures.lookup in
     let from = (get_or ts c.args.place token).from in
     let same : suc from ≡ suc (from - 0) = omega arith in
-    add-one token.from ∙ ap (λ (t : Token). suc t.from) lookup.1 ∙ same ∙ sym (column_at text 0 ts c.args.place token lookup.3.0) ∙ ap (λ us. column text us c.args.place) (shifted_none ts)
+    add-one token.from ∙ ap (λ (t : Token). suc t.from) lookup.1 ∙ same
+    ∙ sym (column_at text 0 ts c.args.place token lookup.3.0)
+    ∙ ap (λ us. column text us c.args.place) (shifted_none ts)
 
 pub returns-in-None : goal.returns-in-None
 returns-in-None c =
     let text = c.args.text.now in
     let lookup = c.in-None.ensures.lookup in
-    add-one (length text) ∙ sym (column_past text 0 c.args.tokens.now c.args.place lookup.3) ∙ ap (λ us. column text us c.args.place) (shifted_none c.args.tokens.now)
+    add-one (length text) ∙ sym (column_past text 0 c.args.tokens.now c.args.place lookup.3)
+    ∙ ap (λ us. column text us c.args.place) (shifted_none c.args.tokens.now)

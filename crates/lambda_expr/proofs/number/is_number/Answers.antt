@@ -10,19 +10,24 @@ pub returns-in-1 : goal.returns-in-1
 returns-in-1 c =
     let t = c.args.text.now in
     let is : c.len.result ≡ 1 = search rules in
-    c.is_digits.ensures ∙ ap is_number ((λ i. c.word_at.ensures.word i ∷ []) ∙ one_word (words_in t) (sym (count_words t _ c.len.ensures) ∙ is))
+    c.is_digits.ensures ∙ ap is_number ((λ i. c.word_at.ensures.word i ∷ [])
+    ∙ one_word (words_in t) (sym (count_words t _ c.len.ensures) ∙ is))
 
 pub returns-in-2 : goal.returns-in-2
 returns-in-2 c =
     let t = c.args.text.now in
     let is : c.len.result ≡ 2 = search rules in
-    c.is_negative.ensures ∙ ap is_number ((λ i. c.word_at-in-2.ensures.word i ∷ c.word_at-in-2-2.ensures.word i ∷ []) ∙ two_words (words_in t) (sym (count_words t _ c.len.ensures) ∙ is))
+    c.is_negative.ensures ∙ ap is_number
+    ((λ i. c.word_at-in-2.ensures.word i ∷ c.word_at-in-2-2.ensures.word i ∷ [])
+    ∙ two_words (words_in t) (sym (count_words t _ c.len.ensures) ∙ is))
 
 pub returns-in-3 : goal.returns-in-3
 returns-in-3 c =
     let t = c.args.text.now in
     let is : c.len.result ≡ 3 = search rules in
-    c.is_constant.ensures ∙ ap is_number ((λ i. c.word_at-in-3.ensures.word i ∷ c.word_at-in-3-2.ensures.word i ∷ c.word_at-in-3-3.ensures.word i ∷ []) ∙ three_words (words_in t) (sym (count_words t _ c.len.ensures) ∙ is))
+    c.is_constant.ensures ∙ ap is_number
+    ((λ i. c.word_at-in-3.ensures.word i ∷ c.word_at-in-3-2.ensures.word i ∷ c.word_at-in-3-3.ensures.word i ∷ [])
+    ∙ three_words (words_in t) (sym (count_words t _ c.len.ensures) ∙ is))
 
 pub returns-in_default : goal.returns-in_default
 returns-in_default c =

@@ -8,5 +8,6 @@ use Rattle.lambda_expr.proofs.number.number_read.Goals as goal
 pub returns : goal.returns
 returns c =
     let t = c.args.text.now in
-    let is = c.number_in.ensures (words_in t) (count_words t _ c.len.ensures) c.word_at.ensures.word c.word_at-2.ensures.word c.word_at-3.ensures.word in
+    let is = c.number_in.ensures (words_in t) (count_words t _ c.len.ensures) c.word_at.ensures.word
+    c.word_at-2.ensures.word c.word_at-3.ensures.word in
     c.flatten.ensures ∙ (by_read (number_value (words_in t)) c.number_in.result is).1

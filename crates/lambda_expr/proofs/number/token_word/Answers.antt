@@ -14,4 +14,5 @@ returns-then-place-tokens c = sym (past_words c.args.text.now c.args.tokens.now 
 pub returns : goal.returns
 returns c =
     let token = slice_index_or c.args.tokens.now c.args.place any in
-    c.word_for.ensures ∙ ap (word_for token.kind) c.text.ensures ∙ sym (get_or-words_of c.args.text.now c.args.tokens.now c.args.place any c.if-place-tokens.false)
+    c.word_for.ensures ∙ ap (word_for token.kind) c.text.ensures
+    ∙ sym (get_or-words_of c.args.text.now c.args.tokens.now c.args.place any c.if-place-tokens.false)

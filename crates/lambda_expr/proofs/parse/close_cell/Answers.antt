@@ -12,4 +12,6 @@ returns-in_ok-push-in-Close c =
     let ps = c.args.stack.now in
     let ss = c.args.steps.now.items in
     let i = c.args.place in
-    subst (λ w. IsAt ps c.push.new.self.items Complete (cell_closed (frames_of ps (run [] ss)) i w)) (sym c.in-Close.is) (leaf_at ps ss c.push.new.self.items (step.Cell i) (cell i) c.in_ok-push-in-Close.ensures.items refl refl c.requires)
+    subst (λ w. IsAt ps c.push.new.self.items Complete (cell_closed (frames_of ps (run [] ss)) i w)) (sym c.in-Close.is)
+    (leaf_at ps ss c.push.new.self.items (step.Cell i) (cell i) c.in_ok-push-in-Close.ensures.items refl refl
+    c.requires)

@@ -13,4 +13,6 @@ returns-in_ok-push-in-Close c =
     let ss = c.args.steps.now.items in
     let i = c.args.place in
     let p = c.args.places in
-    subst (λ w. IsAt ps c.push.new.self.items Complete (decimal_closed (frames_of ps (run [] ss)) i p w)) (sym c.in-Close.is) (leaf_at ps ss c.push.new.self.items (step.DecimalCell i p) (decimal_cell i p) c.in_ok-push-in-Close.ensures.items refl refl c.requires)
+    subst (λ w. IsAt ps c.push.new.self.items Complete (decimal_closed (frames_of ps (run [] ss)) i p w))
+    (sym c.in-Close.is) (leaf_at ps ss c.push.new.self.items (step.DecimalCell i p) (decimal_cell i p)
+    c.in_ok-push-in-Close.ensures.items refl refl c.requires)

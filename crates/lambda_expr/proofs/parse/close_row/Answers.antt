@@ -11,4 +11,5 @@ pub returns-in_ok-push-in-Close : goal.returns-in_ok-push-in-Close
 returns-in_ok-push-in-Close c =
     let ps = c.args.stack.now in
     let ss = c.args.steps.now.items in
-    subst (λ w. IsAt ps c.push.new.self.items Complete (row_closed (frames_of ps (run [] ss)) w)) (sym c.in-Close.is) (leaf_at ps ss c.push.new.self.items step.Row row c.in_ok-push-in-Close.ensures.items refl refl c.requires)
+    subst (λ w. IsAt ps c.push.new.self.items Complete (row_closed (frames_of ps (run [] ss)) w)) (sym c.in-Close.is)
+    (leaf_at ps ss c.push.new.self.items step.Row row c.in_ok-push-in-Close.ensures.items refl refl c.requires)

@@ -12,4 +12,8 @@ pub returns-in_ok-push-in-Callee-Long-default : goal.returns-in_ok-push-in-Calle
 returns-in_ok-push-in-Callee-Long-default c =
     let is : c.args.held ≡ Callee Long c.in-Callee-Long-default.name = search rules in
     let coded = subst (IsCoded c.args.stack.now c.args.steps.now.items) is c.requires in
-    subst (λ h. IsAt c.args.stack.now c.push.new.self.items Complete (settled (state_of c.args.stack.now c.args.steps.now.items h))) (sym is) (leaf_at c.args.stack.now c.args.steps.now.items c.push.new.self.items (step.Constant c.in-Callee-Long-default.name) (constant c.in-Callee-Long-default.name) c.in_ok-push-in-Callee-Long-default.ensures.items refl refl coded)
+    subst (λ h. IsAt c.args.stack.now c.push.new.self.items Complete
+    (settled (state_of c.args.stack.now c.args.steps.now.items h))) (sym is)
+    (leaf_at c.args.stack.now c.args.steps.now.items c.push.new.self.items
+    (step.Constant c.in-Callee-Long-default.name) (constant c.in-Callee-Long-default.name)
+    c.in_ok-push-in-Callee-Long-default.ensures.items refl refl coded)

@@ -1,4 +1,5 @@
-use Rattle.std.proofs.Common.{◌≡◌, ◌<◌, List, [], ◌∷◌, length, drop, get_or, length-drop, rules, subst, sym, Result, Ok, Err, arith}
+use Rattle.std.proofs.Common.{◌≡◌, ◌<◌, List, [], ◌∷◌, length, drop, get_or, length-drop, rules, subst, sym, Result, Ok}
+use Rattle.std.proofs.Common.{Err, arith}
 use Rattle.std.specs.Prelude.{IfErr}
 use Rattle.std.specs.Global.{Vec}
 use Rattle.lambda_expr.specs.declared.lexeme.Lexeme.{Lexeme}
@@ -11,14 +12,16 @@ use Rattle.lambda_expr.specs.Codes.{IsStop}
 use Rattle.lambda_expr.specs.SourceReading.{Next, Operands, TakesMore}
 use Rattle.lambda_expr.specs.Sources.{Takes}
 use Rattle.lambda_expr.specs.Stops.{StopsAt}
-use Rattle.lambda_expr.proofs.EachBody.{IsNotClosed, closed_front, few_stop, late_stop, none_stop, not_closed, operands_stop}
+use Rattle.lambda_expr.proofs.EachBody.{IsNotClosed, closed_front, few_stop, late_stop, none_stop, not_closed}
+use Rattle.lambda_expr.proofs.EachBody.{operands_stop}
 use Rattle.lambda_expr.proofs.source.parse_operands.Goals as goal
 
 late_by : (s : StreamSource) (ws : List Lexeme) → Takes s 0 → 0 < length ws → StopsAt (Operands s) (word.Close ∷ ws) 1
 late_by s [] count lt = absurd (omega arith)
 late_by s (w ∷ ws) count lt = late_stop s w ws count
 
-lifted : (s : StreamSource) (ws : List Lexeme) (r : Result (Vec (Vec ParseStep)) ParseStop) → IsNotClosed ws → IfErr r (λ stop. IsStop (Next s 0) ws stop) → IfErr r (λ stop. IsStop (Operands s) ws stop)
+lifted : (s : StreamSource) (ws : List Lexeme) (r : Result (Vec (Vec ParseStep)) ParseStop) → IsNotClosed ws
+    → IfErr r (λ stop. IsStop (Next s 0) ws stop) → IfErr r (λ stop. IsStop (Operands s) ws stop)
 lifted s ws (Ok v) never h = tt
 lifted s ws (Err (At n)) never h = operands_stop s ws n never h
 lifted s ws (Err NoMemory) never h = tt

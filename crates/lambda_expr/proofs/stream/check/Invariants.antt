@@ -5,4 +5,5 @@ use Rattle.lambda_expr.proofs.stream.check.Given as goal
 
 -- the checks so far, and the checks of the operands that are left
 abbrev pub invariant-loop-operand : goal.invariant-loop-operand
-invariant-loop-operand l = found_in l.checks (steps_of (drop l.operand-index l.operands)) ≡ found_in no_operands (steps_of l.operands)
+invariant-loop-operand l = found_in l.checks (steps_of (drop l.operand-index l.operands))
+    ≡ found_in no_operands (steps_of l.operands)

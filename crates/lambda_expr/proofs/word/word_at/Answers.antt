@@ -16,4 +16,5 @@ pub returns-clause-word : goal.returns-clause-word
 returns-clause-word c =
     let t = c.args.text.now in
     let lt = subst (λ n. c.args.place < n) c.len.ensures c.if-place-len.false in
-    c.word_for.ensures ∙ sym (word_there t.bytes t.tokens c.args.place any c.kind.result c.word.result.now lt (c.kind.ensures any) (c.word.ensures any))
+    c.word_for.ensures ∙ sym (word_there t.bytes t.tokens c.args.place any c.kind.result c.word.result.now lt
+    (c.kind.ensures any) (c.word.ensures any))

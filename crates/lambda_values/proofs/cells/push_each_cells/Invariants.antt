@@ -5,4 +5,5 @@ use Rattle.lambda_values.proofs.cells.push_each_cells.Given as goal
 
 -- the names so far, and the names of the expressions that are left
 abbrev pub invariant-loop-expr : goal.invariant-loop-expr
-invariant-loop-expr l = l.names.items ++ each_cells (exprs_of (drop l.expr-index l.exprs)) ≡ l.initial.names.items ++ each_cells (exprs_of l.exprs)
+invariant-loop-expr l = l.names.items ++ each_cells (exprs_of (drop l.expr-index l.exprs))
+    ≡ l.initial.names.items ++ each_cells (exprs_of l.exprs)

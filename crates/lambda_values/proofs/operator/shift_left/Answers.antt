@@ -9,4 +9,5 @@ returns c =
     let k = c.shift_distance.result in
     let small : of_z w64 c.args.x < 2 ^ 64 = search rules in
     let is : k ≡ low_six_bits c.args.count = search rules in
-    shift_left_wraps c.args.x k small c.ranges.x c.shift_distance.ensures.bound ∙ ap (λ k. wrap (c.args.x *ℤ pos (2 ^ k))) is
+    shift_left_wraps c.args.x k small c.ranges.x c.shift_distance.ensures.bound
+    ∙ ap (λ k. wrap (c.args.x *ℤ pos (2 ^ k))) is

@@ -5,4 +5,5 @@ use Rattle.lambda_values.proofs.quotient.divide.Goals as goal
 pub returns : goal.returns
 returns c =
     let fits : FitsSigned w64 c.wrapping_div.result = search rules in
-    quotient_is c.args.x c.args.y c.wrapping_div.result c.ranges.x c.ranges.y fits c.if-y-eq0.false c.wrapping_div.ensures
+    quotient_is c.args.x c.args.y c.wrapping_div.result c.ranges.x c.ranges.y fits c.if-y-eq0.false
+    c.wrapping_div.ensures

@@ -8,4 +8,5 @@ use Rattle.merge_run.proofs.named_columns.columns_named.Goals as goal
 
 pub returns : goal.returns
 returns c = when_ok c.without_cells.result _ _ c.without_cells.ensures
-    (λ columns is. is ∙ bare_columns (λ name. name.items) _ ∙ ap (map bare) (c.in_ok-names.ensures ∙ ap names_of_texts c.within.ensures))
+    (λ columns is. is ∙ bare_columns (λ name. name.items) _
+    ∙ ap (map bare) (c.in_ok-names.ensures ∙ ap names_of_texts c.within.ensures))

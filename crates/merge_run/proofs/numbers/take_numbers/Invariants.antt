@@ -6,7 +6,8 @@ use Rattle.merge_run.proofs.numbers.take_numbers.Given as goal
 
 abbrev pub invariant-loop-more : goal.invariant-loop-more
 invariant-loop-more l =
-    ((values : List ℤ) (rest : List ℕ) → AllFit values → l.fn.bytes ≡ parted values ++ 93 ∷ rest → AreOthersLeft values rest l.numbers.items l.left)
+    ((values : List ℤ) (rest : List ℕ) → AllFit values → l.fn.bytes ≡ parted values ++ 93 ∷ rest
+    → AreOthersLeft values rest l.numbers.items l.left)
     × AllFit l.numbers.items
 
 abbrev pub decreases-loop-more : goal.decreases-loop-more

@@ -6,7 +6,8 @@ use Rattle.merge_run.proofs.taking.number_of.Goals as goal
 
 pub returns-in-Ok-clause-complete : goal.returns-in-Ok-clause-complete
 returns-in-Ok-clause-complete c = λ z fits same.
-    let read = parse-signed_decimal w64 z c.in-Ok.text.now _ fits (small_number z fits) (c.in-Ok.ensures.cases.0 ∙ same) c.parse.ensures.value.0 in
+    let read = parse-signed_decimal w64 z c.in-Ok.text.now _ fits (small_number z fits) (c.in-Ok.ensures.cases.0 ∙ same)
+    c.parse.ensures.value.0 in
     search rules
 
 pub returns-in-Err-clause-complete : goal.returns-in-Err-clause-complete

@@ -5,7 +5,8 @@ use Rattle.merge_run.specs.Taken.{place_then}
 use Rattle.merge_run.proofs.TakenLemmas.{no_count}
 use Rattle.merge_run.proofs.taking.take_place.Goals as goal
 
-none_there : (o : Option ℕ) (bytes left more : List ℕ) → PlaceFits o → bytes ≡ codes "null" ++ left → bytes ≡ place_then o more → (None ≡ o) × (left ≡ more)
+none_there : (o : Option ℕ) (bytes left more : List ℕ) → PlaceFits o → bytes ≡ codes "null" ++ left
+    → bytes ≡ place_then o more → (None ≡ o) × (left ≡ more)
 none_there None bytes left more fits found same = (refl, ap (drop 4) (sym found ∙ same))
 none_there (Some n) bytes left more fits found same = absurd (no_count n more _ 110 fits refl (sym same ∙ found))
 

@@ -14,13 +14,19 @@ loop-piece-preserved c =
     let q = c.loop-piece.first in
     let count = c.len-count.result in
     let size : count ≡ length p.items = search rules in
-    let here = c.fold_items-folded.ensures ∙ ap (λ (ys : List Item). fold_at f c.cut_to.result 0 c.loop-piece.folded ys) c.deref.ensures.value in (
-      pieces_folded (λ (v : Vec Item Global). v.items) f c.args.range c.cut_to.result q count (q + count) c.loop-piece.folded c.fold_items-folded.result ps w p c.loop-piece-test.true c.piece-item.is size c.cut_to.ensures refl here
+    let here = c.fold_items-folded.ensures
+    ∙ ap (λ (ys : List Item). fold_at f c.cut_to.result 0 c.loop-piece.folded ys) c.deref.ensures.value in (
+      pieces_folded (λ (v : Vec Item Global). v.items) f c.args.range c.cut_to.result q count (q + count)
+          c.loop-piece.folded c.fold_items-folded.result ps w p c.loop-piece-test.true c.piece-item.is size
+          c.cut_to.ensures refl here
           ∙ c.loop-piece.invariant.0,
-      pieces_counted (λ (v : Vec Item Global). v.items) q count (q + count) (length (flat_map (λ (v : Vec Item Global). v.items) ps)) ps w p c.loop-piece-test.true c.piece-item.is size refl c.loop-piece.invariant.1,
+      pieces_counted (λ (v : Vec Item Global). v.items) q count (q + count)
+          (length (flat_map (λ (v : Vec Item Global). v.items) ps)) ps w p c.loop-piece-test.true c.piece-item.is size
+          refl c.loop-piece.invariant.1,
     )
 
 pub returns : goal.returns
 returns c =
-    sym (pieces_done (λ (v : Vec Item Global). v.items) (value_of c.args.op) c.args.range c.loop-piece.first c.loop-piece.folded c.args.pieces.now c.loop-piece.piece-index c.loop-piece-test.false)
+    sym (pieces_done (λ (v : Vec Item Global). v.items) (value_of c.args.op) c.args.range c.loop-piece.first
+    c.loop-piece.folded c.args.pieces.now c.loop-piece.piece-index c.loop-piece-test.false)
     ∙ c.loop-piece.invariant.0

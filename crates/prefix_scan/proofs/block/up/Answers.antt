@@ -15,6 +15,8 @@ returns-clause-stands c =
     let f = value_of c.args.op in
     let xs = c.args.chunk.now.items in
     let ys = selected c.args.at 0 xs in
-    let fold : c.fold_pieces.result ≡ fold_items f ys = c.fold_pieces.ensures ∙ ap (λ (l : List Item). fold_at f c.args.at 0 None l) c.pieces.ensures ∙ fold_selected f c.args.at 0 xs in
+    let fold : c.fold_pieces.result ≡ fold_items f ys =
+    c.fold_pieces.ensures ∙ ap (λ (l : List Item). fold_at f c.args.at 0 None l) c.pieces.ensures
+    ∙ fold_selected f c.args.at 0 xs in
     let ended = c.end_with.ensures.stands (trace ys end.Done) (c.block_of-block.ensures.stands ys fold) in
     subst (λ (t : Trace). FoldStands c.end_with.new.self t) (λ i. trace (append-nil ys i) (c.end.ensures i)) ended

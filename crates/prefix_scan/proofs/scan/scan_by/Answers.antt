@@ -12,24 +12,43 @@ returns-then-from-to-clause-fold c = search (rules, fold_none)
 
 pub loop-i-init : goal.loop-i-init
 loop-i-init c =
-    begun (value_of c.args.op) c.args.range (length c.args.items.now) c.positions_within-from.result.0 c.positions_within-from.result.1
-    c.args.start c.args.items.now (record { origin = 0; value = pos 0 }) (record { origin = (get_or c.args.items.now c.positions_within-from.result.0 (record { origin = 0; value = pos 0 })).origin; value = to_z w64 (of_z w64 c.put_on-running.result) }) (to_z w64 (of_z w64 c.put_on-running.result)) c.positions_within-from.ensures refl c.if-from-to.false (search rules) refl
+    begun (value_of c.args.op) c.args.range (length c.args.items.now) c.positions_within-from.result.0
+    c.positions_within-from.result.1
+    c.args.start c.args.items.now (record { origin = 0; value = pos 0 })
+    (record {
+      origin = (get_or c.args.items.now c.positions_within-from.result.0
+          (record { origin = 0; value = pos 0 })).origin;
+      value = to_z w64 (of_z w64 c.put_on-running.result);
+    })
+    (to_z w64 (of_z w64 c.put_on-running.result)) c.positions_within-from.ensures refl c.if-from-to.false
+    (search rules) refl
 
 pub loop-i-preserved : goal.loop-i-preserved
 loop-i-preserved c =
-    gone_on (value_of c.args.op) c.args.range (length c.args.items.now) c.positions_within-from.result.0 c.positions_within-from.result.1 c.loop-i.i
-    (to_z w64 c.loop-i.running-bits) c.args.items.now c.loop-i.items (record { origin = 0; value = pos 0 }) (record { origin = (get_or c.loop-i.items c.loop-i.i (record { origin = 0; value = pos 0 })).origin; value = to_z w64 (of_z w64 c.apply-running.result) }) (to_z w64 (of_z w64 c.apply-running.result))
-    (fold_at (value_of c.args.op) c.args.range 0 c.args.start c.args.items.now) (scan_at (value_of c.args.op) c.args.range 0 c.args.start c.args.items.now)
-    c.positions_within-from.ensures refl c.loop-i.auto.i c.loop-i-test.true (search rules) refl c.loop-i.invariant.0 c.loop-i.invariant.1 c.loop-i.invariant.2
+    gone_on (value_of c.args.op) c.args.range (length c.args.items.now) c.positions_within-from.result.0
+    c.positions_within-from.result.1 c.loop-i.i
+    (to_z w64 c.loop-i.running-bits) c.args.items.now c.loop-i.items (record { origin = 0; value = pos 0 })
+    (record {
+      origin = (get_or c.loop-i.items c.loop-i.i (record { origin = 0; value = pos 0 })).origin;
+      value = to_z w64 (of_z w64 c.apply-running.result);
+    }) (to_z w64 (of_z w64 c.apply-running.result))
+    (fold_at (value_of c.args.op) c.args.range 0 c.args.start c.args.items.now)
+    (scan_at (value_of c.args.op) c.args.range 0 c.args.start c.args.items.now)
+    c.positions_within-from.ensures refl c.loop-i.auto.i c.loop-i-test.true (search rules) refl c.loop-i.invariant.0
+    c.loop-i.invariant.1 c.loop-i.invariant.2
 
 pub returns-clause-items : goal.returns-clause-items
 returns-clause-items c =
-    sym (scan_left (value_of c.args.op) c.args.range (length c.args.items.now) c.positions_within-from.result.0 c.positions_within-from.result.1 c.loop-i.i
-    (Some (to_z w64 c.loop-i.running-bits)) c.loop-i.items c.positions_within-from.ensures (sym c.loop-i.invariant.0) c.loop-i-test.false)
+    sym (scan_left (value_of c.args.op) c.args.range (length c.args.items.now) c.positions_within-from.result.0
+    c.positions_within-from.result.1 c.loop-i.i
+    (Some (to_z w64 c.loop-i.running-bits)) c.loop-i.items c.positions_within-from.ensures (sym c.loop-i.invariant.0)
+    c.loop-i-test.false)
     ∙ c.loop-i.invariant.2
 
 pub returns-clause-fold : goal.returns-clause-fold
 returns-clause-fold c =
-    sym (fold_left (value_of c.args.op) c.args.range (length c.args.items.now) c.positions_within-from.result.0 c.positions_within-from.result.1 c.loop-i.i
-    (Some (to_z w64 c.loop-i.running-bits)) c.loop-i.items c.positions_within-from.ensures (sym c.loop-i.invariant.0) c.loop-i-test.false)
+    sym (fold_left (value_of c.args.op) c.args.range (length c.args.items.now) c.positions_within-from.result.0
+    c.positions_within-from.result.1 c.loop-i.i
+    (Some (to_z w64 c.loop-i.running-bits)) c.loop-i.items c.positions_within-from.ensures (sym c.loop-i.invariant.0)
+    c.loop-i-test.false)
     ∙ c.loop-i.invariant.1

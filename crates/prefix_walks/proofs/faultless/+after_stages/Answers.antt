@@ -6,4 +6,6 @@ use Rattle.prefix_walks.proofs.faultless.+after_stages.Goals as goal
 pub returns-in_ok-left-in-Some : goal.returns-in_ok-left-in-Some
 returns-in_ok-left-in-Some t c =
     let split : c.args.stages.now ≡ c.in-Some.stage.now ∷ c.in-Some.later.now = search rules in
-    rw split (when_some c.after_stages.result (more_faultless c.args.names (stage_of c.in-Some.stage.now) (stages_of c.in-Some.later.now) c.in_ok-left-in-Some.ensures) c.after_stages.ensures)
+    rw split (when_some c.after_stages.result
+    (more_faultless c.args.names (stage_of c.in-Some.stage.now) (stages_of c.in-Some.later.now)
+    c.in_ok-left-in-Some.ensures) c.after_stages.ensures)

@@ -8,4 +8,5 @@ returns-in-Never c = λ yes x env v w is. binary_there c.args.operator (sym c.fa
 
 pub returns-in-ByZero : goal.returns-in-ByZero
 returns-in-ByZero c = λ yes x env v w is.
-    divided_there c.args.operator (sym c.faults.ensures ∙ c.in-ByZero.is) v w (divisor_value (long_of c.args.right.now) x env w (c.is_divisor.ensures yes) is)
+    divided_there c.args.operator (sym c.faults.ensures ∙ c.in-ByZero.is) v w
+    (divisor_value (long_of c.args.right.now) x env w (c.is_divisor.ensures yes) is)

@@ -16,5 +16,8 @@ returns-clause-fed g c = λ xs took.
     let op = c.args.scan.prefix.op in
     let at = c.cut_to-at.result in
     let same = c.scan.ensures.items ∙ ap (scan_at (value_of op) at 0 c.args.scan.start) c.put.ensures
-    ∙ scanned_cut op c.args.scan.prefix.range at c.args.scan.position c.count.result c.args.scan.start (items_of c.args.piece.now) c.cut_to-at.ensures c.count.ensures in
-    subst (λ (ys : List Item). IsFed g.S.LongSink.has_taken xs (piped c.args.line (trace (elements c.args.window.from c.args.window.to ys) end.Done)) c.feed_buffer.result c.feed_buffer.new.sink) same (c.feed_buffer.ensures.fed xs took)
+    ∙ scanned_cut op c.args.scan.prefix.range at c.args.scan.position c.count.result c.args.scan.start
+    (items_of c.args.piece.now) c.cut_to-at.ensures c.count.ensures in
+    subst (λ (ys : List Item). IsFed g.S.LongSink.has_taken xs
+    (piped c.args.line (trace (elements c.args.window.from c.args.window.to ys) end.Done)) c.feed_buffer.result
+    c.feed_buffer.new.sink) same (c.feed_buffer.ensures.fed xs took)

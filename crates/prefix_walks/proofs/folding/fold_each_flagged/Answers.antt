@@ -1,9 +1,11 @@
-use Rattle.std.proofs.Common.{◌≡◌, ℕ, ℤ, FitsSigned, w64, Some, ◌<◌, to_z, of_z, true, false, length, sym, ap, subst, ◌∙◌, arith, rules}
+use Rattle.std.proofs.Common.{◌≡◌, ℕ, ℤ, FitsSigned, w64, Some, ◌<◌, to_z, of_z, true, false, length, sym, ap, subst}
+use Rattle.std.proofs.Common.{◌∙◌, arith, rules}
 use Rattle.reduce_ops.specs.Operators.{value_of}
 use Rattle.batch_eval.specs.Lanes.{at}
 use Rattle.batch_eval.specs.Batches.{flagged_values, holds}
 use Rattle.prefix_walks.specs.Batches.{each_one, folded_values}
-use Rattle.prefix_walks.proofs.FlaggedFolds.{AllFit, fit_set, flagged_folded, folded_from, folded_set, folded_unset, none_folded, passed_set, values_unset}
+use Rattle.prefix_walks.proofs.FlaggedFolds.{AllFit, fit_set, flagged_folded, folded_from, folded_set, folded_unset}
+use Rattle.prefix_walks.proofs.FlaggedFolds.{none_folded, passed_set, values_unset}
 use Rattle.prefix_walks.proofs.folding.fold_each_flagged.Goals.{then-passes, else-passes, then-passes-2, else-passes-2}
 use Rattle.prefix_walks.proofs.folding.fold_each_flagged.Goals as goal
 
@@ -48,14 +50,20 @@ loop-lane-preserved c =
       folded = fits ∙ c.apply-folded.ensures ∙ elim c.if-passes-2.branch [
         | then-passes-2 w ↦
             let passed : set (at flags n) ≡ true = sym flag ∙ w.if-passes-2.true in
-            let counted_fits : to_z w64 (of_z w64 c.counted_value-taken.result) ≡ c.counted_value-taken.result = search rules in
+            let counted_fits : to_z w64 (of_z w64 c.counted_value-taken.result) ≡ c.counted_value-taken.result =
+            search rules in
             let value_fits : to_z w64 (of_z w64 (at values n)) ≡ at values n = search rules in
-            let value : to_z w64 c.if-passes-2.value-bits ≡ each_one counts (at values n) = w.value-is ∙ counted_fits ∙ c.counted_value-taken.ensures ∙ ap (each_one counts) value_fits in
-            ap (λ (a : ℤ). value_of op a (to_z w64 c.if-passes-2.value-bits)) so_far.folded ∙ ap (value_of op (folded_from set values flags op counts identity n)) value ∙ sym (folded_set set values flags op counts identity n passed)
+            let value : to_z w64 c.if-passes-2.value-bits ≡ each_one counts (at values n) =
+            w.value-is ∙ counted_fits ∙ c.counted_value-taken.ensures ∙ ap (each_one counts) value_fits in
+            ap (λ (a : ℤ). value_of op a (to_z w64 c.if-passes-2.value-bits)) so_far.folded
+            ∙ ap (value_of op (folded_from set values flags op counts identity n)) value
+            ∙ sym (folded_set set values flags op counts identity n passed)
         | else-passes-2 w ↦
             let unset : set (at flags n) ≡ false = sym flag ∙ w.if-passes-2.false in
             let value : to_z w64 c.if-passes-2.value-bits ≡ identity = w.value-is in
-            ap (value_of op (to_z w64 c.loop-lane.folded-bits)) value ∙ sym (folded_unset set values flags op counts identity n (to_z w64 c.loop-lane.folded-bits) is so_far_fits so_far.folded unset)
+            ap (value_of op (to_z w64 c.loop-lane.folded-bits)) value
+            ∙ sym (folded_unset set values flags op counts identity n (to_z w64 c.loop-lane.folded-bits) is
+            so_far_fits so_far.folded unset)
       ];
     }
 
@@ -66,8 +74,11 @@ returns-then-missed-flags c =
     let set = holds c.args.lanes.set in
     let n = c.loop-lane.lane in
     let whole : n ≡ length flags = omega (arith, c.loop-lane-test.false, c.loop-lane.auto.lane-end) in
-    let none : 0 ≡ length (flagged_values set values flags n) = omega (arith, whole, c.loop-lane.invariant.missed, c.if-missed-flags.true) in
-    none_folded set values flags c.args.op c.args.counts (to_z w64 (of_z w64 c.args.identity)) (flagged_values set values flags n) none ∙ ap (λ (m : ℕ). folded_values (value_of c.args.op) c.args.counts (flagged_values set values flags m)) whole
+    let none : 0 ≡ length (flagged_values set values flags n) =
+    omega (arith, whole, c.loop-lane.invariant.missed, c.if-missed-flags.true) in
+    none_folded set values flags c.args.op c.args.counts (to_z w64 (of_z w64 c.args.identity))
+    (flagged_values set values flags n) none
+    ∙ ap (λ (m : ℕ). folded_values (value_of c.args.op) c.args.counts (flagged_values set values flags m)) whole
 
 pub returns-else-missed-flags : goal.returns-else-missed-flags
 returns-else-missed-flags c =
@@ -81,5 +92,8 @@ returns-else-missed-flags c =
     let identity_fits : to_z w64 (of_z w64 c.args.identity) ≡ c.args.identity = search rules in
     let is = c.requires ∙ ap Some (sym identity_fits) in
     let whole : n ≡ length flags = omega (arith, c.loop-lane-test.false, c.loop-lane.auto.lane-end) in
-    let some : 0 < length (flagged_values set values flags n) = omega (arith, whole, c.loop-lane.invariant.missed, c.if-missed-flags.false) in
-    ap Some c.loop-lane.invariant.folded ∙ flagged_folded set values flags op counts identity is n c.loop-lane.invariant.fits some ∙ ap (λ (m : ℕ). folded_values (value_of op) counts (flagged_values set values flags m)) whole
+    let some : 0 < length (flagged_values set values flags n) =
+    omega (arith, whole, c.loop-lane.invariant.missed, c.if-missed-flags.false) in
+    ap Some c.loop-lane.invariant.folded
+    ∙ flagged_folded set values flags op counts identity is n c.loop-lane.invariant.fits some
+    ∙ ap (λ (m : ℕ). folded_values (value_of op) counts (flagged_values set values flags m)) whole

@@ -11,7 +11,9 @@ use Rattle.prefix_walks.proofs.kept_items.feed_parts.Given as goal
 
 abbrev pub invariant-loop-from : goal.invariant-loop-from
 invariant-loop-from g l = (l.from ≤ length (items_of l.items)) × (g.S.LongSink.flow l.sink ≡ flow.More)
-    × ((xs : List Item) → g.S.LongSink.has_taken l.initial.sink xs → IsFed g.S.LongSink.has_taken xs (piped l.line (trace (take l.from (items_of l.items)) end.Done)) (Ok fed.More) l.sink)
+    × ((xs : List Item) → g.S.LongSink.has_taken l.initial.sink xs
+    → IsFed g.S.LongSink.has_taken xs (piped l.line (trace (take l.from (items_of l.items)) end.Done)) (Ok fed.More)
+    l.sink)
 
 abbrev pub decreases-loop-from : goal.decreases-loop-from
 decreases-loop-from g l = length (items_of l.items) - l.from

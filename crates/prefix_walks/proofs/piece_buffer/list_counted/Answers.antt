@@ -11,5 +11,6 @@ returns-after-loop-i c =
     let first = c.in-Some.first in
     let size = c.loop-i.invariant.0 in
     ext_get_or 0 c.loop-i.places (range_with_len first n) (size ∙ sym (length-range_with_len first n))
-    (λ k below. c.loop-i.invariant.1 k (omega (arith, below, size, c.loop-i-test.false)) ∙ sym (get_or-range_with_len first n k 0 (omega (arith, below, size))))
+    (λ k below. c.loop-i.invariant.1 k (omega (arith, below, size, c.loop-i-test.false))
+    ∙ sym (get_or-range_with_len first n k 0 (omega (arith, below, size))))
     ∙ sym (ap (λ s. places_from s c.args.places.now) c.in-Some.is)

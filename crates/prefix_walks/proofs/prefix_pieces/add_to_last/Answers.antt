@@ -9,14 +9,16 @@ returns-in-Some-clause-added g c = λ h.
     let pieces = c.args.pieces.now in
     let some_piece : 0 < pieces.len = c.in-Some.ensures.variant.0 refl in
     let last : suc (pieces.len - 1) ≡ length pieces.items = omega (arith, pieces.ok.0, some_piece) in
-    read_grows items_of pieces.items (pieces.len - 1) c.in-Some.piece.now c.add.new.self (g.I.SourceItems.items c.args.source.now) last c.in-Some.ensures.value (c.add.ensures.added h)
+    read_grows items_of pieces.items (pieces.len - 1) c.in-Some.piece.now c.add.new.self
+    (g.I.SourceItems.items c.args.source.now) last c.in-Some.ensures.value (c.add.ensures.added h)
 
 pub returns-in-Some-clause-other : goal.returns-in-Some-clause-other
 returns-in-Some-clause-other g c = λ h.
     let pieces = c.args.pieces.now in
     let some_piece : 0 < pieces.len = c.in-Some.ensures.variant.0 refl in
     let last : suc (pieces.len - 1) ≡ length pieces.items = omega (arith, pieces.ok.0, some_piece) in
-    read_stays items_of pieces.items (pieces.len - 1) c.in-Some.piece.now c.add.new.self last c.in-Some.ensures.value (c.add.ensures.other h)
+    read_stays items_of pieces.items (pieces.len - 1) c.in-Some.piece.now c.add.new.self last c.in-Some.ensures.value
+    (c.add.ensures.other h)
 
 pub returns-in-Some-clause-folds : goal.returns-in-Some-clause-folds
 returns-in-Some-clause-folds g c =

@@ -16,6 +16,9 @@ abbrev pub invariant-loop-piece : goal.invariant-loop-piece
 invariant-loop-piece g l = (g.S.LongSink.flow l.sink ≡ flow.More)
     × ((xs : List Item) → g.S.LongSink.has_taken l.initial.sink xs → (done : List Item)
     × IsFed g.S.LongSink.has_taken xs (piped l.line (trace done end.Done)) (Ok fed.More) l.sink
-    × (done ++ elements l.left.from l.left.to (scan_at (value_of l.scan.prefix.op) l.scan.prefix.range l.position l.start (all_items (drop l.piece-index l.pieces)))
-    ≡ elements l.fn.window.from l.fn.window.to (scan_at (value_of l.scan.prefix.op) l.scan.prefix.range l.scan.position l.scan.start (all_items l.pieces))))
+    × (done ++ elements l.left.from l.left.to
+    (scan_at (value_of l.scan.prefix.op) l.scan.prefix.range l.position l.start
+    (all_items (drop l.piece-index l.pieces)))
+    ≡ elements l.fn.window.from l.fn.window.to
+    (scan_at (value_of l.scan.prefix.op) l.scan.prefix.range l.scan.position l.scan.start (all_items l.pieces))))
     × (l.position + length (all_items (drop l.piece-index l.pieces)) < 2 ^ 64)

@@ -12,6 +12,9 @@ loop-position-preserved g c =
     let old = c.args.places.now.items in
     let places = map (λ (z : Item). z.origin) (take i xs) in
     let more : take (i + 1) xs ≡ take i xs ++ x ∷ [] =
-    take_more xs i x (slice_get_within xs i x c.item_at.ensures) ∙ ap (λ (z : Item). take i xs ++ z ∷ []) (get_or_from_slice_get xs i x x c.item_at.ensures) in
-    c.in_default.ensures.items ∙ ap (λ (ys : List ℕ). ys ++ x.origin ∷ []) c.loop-position.invariant ∙ append_assoc old places (x.origin ∷ [])
-    ∙ ap (λ (ys : List ℕ). old ++ ys) (sym (ap (map (λ (z : Item). z.origin)) more ∙ map-append (λ (z : Item). z.origin) (take i xs) (x ∷ [])))
+    take_more xs i x (slice_get_within xs i x c.item_at.ensures)
+    ∙ ap (λ (z : Item). take i xs ++ z ∷ []) (get_or_from_slice_get xs i x x c.item_at.ensures) in
+    c.in_default.ensures.items ∙ ap (λ (ys : List ℕ). ys ++ x.origin ∷ []) c.loop-position.invariant
+    ∙ append_assoc old places (x.origin ∷ [])
+    ∙ ap (λ (ys : List ℕ). old ++ ys) (sym
+    (ap (map (λ (z : Item). z.origin)) more ∙ map-append (λ (z : Item). z.origin) (take i xs) (x ∷ [])))

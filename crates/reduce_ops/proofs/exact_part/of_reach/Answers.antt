@@ -5,4 +5,5 @@ use Rattle.reduce_ops.proofs.ExactLemmas.{wide_over}
 use Rattle.reduce_ops.proofs.exact_part.of_reach.Goals as goal
 
 pub returns-in-None : goal.returns-in-None
-returns-in-None c t is ending = wide_over t.items (subst (λ (r : Option Reach). IsReach r (reach_of (item_values t.items))) c.in-None.is is)
+returns-in-None c t is ending = wide_over t.items
+    (subst (λ (r : Option Reach). IsReach r (reach_of (item_values t.items))) c.in-None.is is)

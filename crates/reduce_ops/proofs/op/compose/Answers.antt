@@ -11,6 +11,7 @@ returns c =
     let second = to_z-of_z w64 c.args.second c.ranges.second in
     to_z-of_z w64 c.cast_signed.result fits ∙ c.cast_signed.ensures
     ∙ (λ i. to_z w64 (c.from.ensures i * 4294967296 + c.from-2.ensures i))
-    ∙ composed c.args.first c.args.second c.halves-first_factor.result.0 c.halves-first_factor.result.1 c.halves-factor.result.0 c.halves-factor.result.1
+    ∙ composed c.args.first c.args.second c.halves-first_factor.result.0 c.halves-first_factor.result.1
+    c.halves-factor.result.0 c.halves-factor.result.1
     (c.halves-first_factor.ensures.upper ∙ ap upper first) (c.halves-first_factor.ensures.lower ∙ ap lower first)
     (c.halves-factor.ensures.upper ∙ ap upper second) (c.halves-factor.ensures.lower ∙ ap lower second)

@@ -16,11 +16,14 @@ loop-value-preserved c =
     let few = c.requires.few in
     let inside = c.loop-value-test.true in
     let before = c.loop-value.invariant in
-    let q : AbstractReach = reach_on (reach (to_z w64 c.loop-value.total-bits) (to_z w64 c.loop-value.least-bits) (to_z w64 c.loop-value.greatest-bits)) here in
+    let q : AbstractReach = reach_on (reach (to_z w64 c.loop-value.total-bits) (to_z w64 c.loop-value.least-bits)
+    (to_z w64 c.loop-value.greatest-bits)) here in
     let low = c.min-least.ensures.value in
     let high = c.max-greatest.ensures.value in (
-      same_reach _ q.total _ q.least _ q.greatest (omega (arith, ints)) (omega (arith, ints, clamps)) (omega (arith, ints, clamps))
-          ∙ ap (λ (r : AbstractReach). reach_on r here) before.0 ∙ sym (fold_more reach_on no_reach vs i (pos 0) inside),
+      same_reach _ q.total _ q.least _ q.greatest (omega (arith, ints)) (omega (arith, ints, clamps))
+          (omega (arith, ints, clamps))
+          ∙ ap (λ (r : AbstractReach). reach_on r here) before.0
+          ∙ sym (fold_more reach_on no_reach vs i (pos 0) inside),
       omega (arith, ints, clamps),
       omega (arith, ints, clamps),
       omega (arith, ints, clamps),

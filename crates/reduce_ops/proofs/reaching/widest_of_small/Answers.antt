@@ -18,9 +18,12 @@ loop-value-preserved c =
     let up = c.max-rises.ensures.value in
     let q : AbstractReach = reach_of (take i vs) in
     let next : reach_of (take (i + 1) vs) ≡ reach_on q here = fold_more reach_on no_reach vs i (pos 0) inside in
-    let total : (reach_of (take (i + 1) vs)).total ≡ (reach_on q here).total = ap (λ (r : AbstractReach). r.total) next in
-    let least : (reach_of (take (i + 1) vs)).least ≡ (reach_on q here).least = ap (λ (r : AbstractReach). r.least) next in
-    let greatest : (reach_of (take (i + 1) vs)).greatest ≡ (reach_on q here).greatest = ap (λ (r : AbstractReach). r.greatest) next in
+    let total : (reach_of (take (i + 1) vs)).total ≡ (reach_on q here).total =
+    ap (λ (r : AbstractReach). r.total) next in
+    let least : (reach_of (take (i + 1) vs)).least ≡ (reach_on q here).least =
+    ap (λ (r : AbstractReach). r.least) next in
+    let greatest : (reach_of (take (i + 1) vs)).greatest ≡ (reach_on q here).greatest =
+    ap (λ (r : AbstractReach). r.greatest) next in
     record {
       total = omega (arith, ints);
       least = omega (arith, ints, clamps);

@@ -16,7 +16,9 @@ text_of-requires c =
     let names = c.args.names.now in
     let first : iter_rest (zip_first c.into_iter-name-iterator.result) ≡ names = search rules in
     let second : iter_rest (zip_second c.into_iter-name-iterator.result) ≡ c.args.answers.now = search rules in
-    let turn = zip_turn names c.args.answers.now c.loop-name.yielded c.into_iter-name-iterator.result c.loop-name.name-iterator c.next.new.self c.next.result first second c.loop-name.yielded_by (c.in-Some.name, c.in-Some.answer) c.in-Some.is c.next.ensures.steps in
+    let turn = zip_turn names c.args.answers.now c.loop-name.yielded c.into_iter-name-iterator.result
+    c.loop-name.name-iterator c.next.new.self c.next.result first second c.loop-name.yielded_by
+    (c.in-Some.name, c.in-Some.answer) c.in-Some.is c.next.ensures.steps in
     subst IsText (sym (turn.2 c.in-Some.name.now)) (All-get_or IsText names _ c.in-Some.name.now turn.0 c.requires.text)
 
 pub returns : goal.returns
@@ -25,8 +27,12 @@ returns c =
     let answers = c.args.answers.now in
     let first : iter_rest (zip_first c.into_iter-name-iterator.result) ≡ names = search rules in
     let second : iter_rest (zip_second c.into_iter-name-iterator.result) ≡ answers = search rules in
-    let stop = zip_end names answers c.loop-name.yielded c.into_iter-name-iterator.result c.loop-name.name-iterator c.next.new.self c.next.result first second c.loop-name.yielded_by c.in-None.is c.next.ensures.steps in
+    let stop = zip_end names answers c.loop-name.yielded c.into_iter-name-iterator.result c.loop-name.name-iterator
+    c.next.new.self c.next.result first second c.loop-name.yielded_by c.in-None.is c.next.ensures.steps in
     let all : length names ≤ length c.loop-name.yielded = omega (arith, stop, c.requires.paired) in
-    let left : jobs_json names (drop (length c.loop-name.yielded) names) (drop (length c.loop-name.yielded) answers) ≡ [] =
+    let left : jobs_json names (drop (length c.loop-name.yielded) names) (drop (length c.loop-name.yielded) answers)
+    ≡ [] =
     ap (λ ns. jobs_json names ns (drop (length c.loop-name.yielded) answers)) (drop_of_length-le names all) in
-    c.in_ok-extend_from_slice-2.ensures.items ∙ all_written c.loop-name.report.items (91 ∷ items_text false (items_of (jobs_json names names answers))) c.loop-name.later _ left c.loop-name.invariant
+    c.in_ok-extend_from_slice-2.ensures.items
+    ∙ all_written c.loop-name.report.items (91 ∷ items_text false (items_of (jobs_json names names answers)))
+    c.loop-name.later _ left c.loop-name.invariant

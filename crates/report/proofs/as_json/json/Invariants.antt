@@ -7,5 +7,6 @@ use Rattle.report.proofs.as_json.json.Given as goal
 -- what is written, and the objects of the jobs that are left, are all the objects
 abbrev pub invariant-loop-name : goal.invariant-loop-name
 invariant-loop-name l =
-    l.report.items ++ items_text l.later (items_of (jobs_json l.names (drop (length l.yielded) l.names) (drop (length l.yielded) l.answers)))
+    l.report.items ++ items_text l.later
+    (items_of (jobs_json l.names (drop (length l.yielded) l.names) (drop (length l.yielded) l.answers)))
     ≡ 91 ∷ items_text false (items_of (jobs_json l.names l.names l.answers))

@@ -14,5 +14,7 @@ returns g c =
     let made = c.in_ok-made.made.items in
     let texts : AreMade separator groups made = λ n group r below.
     let given = (c.in_ok-made.ensures.each n r below).1 in
-    subst (λ (v : Vec (Bor (List ℤ)) Global). IfOk (get_or made n r) (λ (text : Vec ℕ Global). text.items ≡ further separator (runs_in v.items))) (sym (given.job_is group)) given.call.met in
+    subst (λ (v : Vec (Bor (List ℤ)) Global). IfOk (get_or made n r)
+    (λ (text : Vec ℕ Global). text.items ≡ further separator (runs_in v.items))) (sym (given.job_is group))
+    given.call.met in
     rw (sym c.in_ok-groups.ensures) (joined separator groups made c.all_of.result texts (search rules) c.all_of.ensures)

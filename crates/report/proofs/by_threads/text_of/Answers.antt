@@ -13,5 +13,6 @@ loop-run-preserved c =
     let runs = c.args.runs.now in
     let i = c.loop-run.run-index in
     let none : Bor (List ℤ) = record { ref_ptr = (0, 0); now = [] } in
-    further_more separator [] c.loop-run.text.items c.write_further.new.text.items (runs_in (take i runs)) (get_or runs i none).now c.loop-run.invariant c.in_ok-write_further.ensures
+    further_more separator [] c.loop-run.text.items c.write_further.new.text.items (runs_in (take i runs))
+    (get_or runs i none).now c.loop-run.invariant c.in_ok-write_further.ensures
     ∙ ap (further separator) (sym (run_on runs i none c.loop-run-test.true))

@@ -8,5 +8,6 @@ use Rattle.report.proofs.long_json.json_by.Given as goal
 -- what is written, and the objects of the jobs that are left, are all the objects
 abbrev pub invariant-loop-name : goal.invariant-loop-name
 invariant-loop-name g l =
-    draft_bytes l.draft ++ items_text l.later (items_of (jobs_json l.names (drop (length l.yielded) l.names) (drop (length l.yielded) l.answers)))
+    draft_bytes l.draft ++ items_text l.later
+    (items_of (jobs_json l.names (drop (length l.yielded) l.names) (drop (length l.yielded) l.answers)))
     ≡ 91 ∷ items_text false (items_of (jobs_json l.names l.names l.answers))

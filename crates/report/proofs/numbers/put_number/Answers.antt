@@ -5,19 +5,39 @@ use Rattle.report.proofs.NumberLemmas.{signed_minus}
 use Rattle.report.proofs.numbers.put_number.Goals as goal
 
 pub write_digits-start-requires : goal.write_digits-start-requires
-write_digits-start-requires c = (omega (arith, length-decimal-le 19 c.unsigned_abs.result (omega arith) (omega arith) (omega arith), c.requires.room), c.requires.within)
+write_digits-start-requires c = (
+  omega (
+    arith,
+    length-decimal-le 19 c.unsigned_abs.result (omega arith) (omega arith) (omega arith),
+    c.requires.room,
+  ),
+  c.requires.within,
+)
 
 pub returns-then-value-ge0-clause-short : goal.returns-then-value-ge0-clause-short
-returns-then-value-ge0-clause-short c = omega (arith, length-decimal-le 19 c.unsigned_abs.result (omega arith) (omega arith) (omega arith))
+returns-then-value-ge0-clause-short c = omega
+    (arith, length-decimal-le 19 c.unsigned_abs.result (omega arith) (omega arith) (omega arith))
 
 pub overflow_sub-room : goal.overflow_sub-room
-overflow_sub-room c = omega (arith, length-decimal-le 19 c.unsigned_abs.result (omega arith) (omega arith) (omega arith))
+overflow_sub-room c = omega (
+  arith,
+  length-decimal-le 19 c.unsigned_abs.result (omega arith) (omega arith)
+      (omega arith),
+)
 
 pub overflow_sub-result : goal.overflow_sub-result
-overflow_sub-result c = omega (arith, length-decimal-le 19 c.unsigned_abs.result (omega arith) (omega arith) (omega arith))
+overflow_sub-result c = omega (
+  arith,
+  length-decimal-le 19 c.unsigned_abs.result (omega arith) (omega arith)
+      (omega arith),
+)
 
 pub returns-clause-short : goal.returns-clause-short
-returns-clause-short c = omega (arith, length-decimal-le 19 c.unsigned_abs.result (omega arith) (omega arith) (omega arith))
+returns-clause-short c = omega (
+  arith,
+  length-decimal-le 19 c.unsigned_abs.result (omega arith) (omega arith)
+      (omega arith),
+)
 
 pub returns-clause-put : goal.returns-clause-put
 returns-clause-put c =

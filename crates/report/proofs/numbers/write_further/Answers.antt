@@ -7,6 +7,8 @@ pub loop-at-preserved : goal.loop-at-preserved
 loop-at-preserved c = (
   search rules,
   search rules,
-  further_next (separator_bytes c.args.separator) c.args.text.now.items c.loop-at.text.items c.extend_from_slice.new.self.items c.args.values.now c.loop-at.at c.min-count.result c.put_further-start.new.room c.put_further-start.result
+  further_next (separator_bytes c.args.separator) c.args.text.now.items c.loop-at.text.items
+      c.extend_from_slice.new.self.items c.args.values.now c.loop-at.at c.min-count.result c.put_further-start.new.room
+      c.put_further-start.result
       c.loop-at.invariant.2 c.put_further-start.ensures.put (search rules),
 )

@@ -14,7 +14,9 @@ invariant-loop-answer l =
     (into_iter_len l.answer-iterator ≡ length (into_iter_items l.answer-iterator)) ×
     (l.job ≤ length l.fn.jobs) ×
     (l.job ≤ length l.fn.right.answers.items) ×
-    (onto l.both.items (answers_beside (jobs_of (drop l.job l.fn.jobs)) l.fn.before l.fn.right.rows (into_iter_items l.answer-iterator) (drop l.job l.fn.right.answers.items))
+    (onto l.both.items (answers_beside (jobs_of (drop l.job l.fn.jobs)) l.fn.before l.fn.right.rows
+    (into_iter_items l.answer-iterator) (drop l.job l.fn.right.answers.items))
     ≡ answers_beside (jobs_of l.fn.jobs) l.fn.before l.fn.right.rows l.fn.left.items l.fn.right.answers.items) ×
-    (first_apart l.job (jobs_of (drop l.job l.fn.jobs)) l.fn.before l.fn.right.rows (into_iter_items l.answer-iterator) (drop l.job l.fn.right.answers.items)
+    (first_apart l.job (jobs_of (drop l.job l.fn.jobs)) l.fn.before l.fn.right.rows (into_iter_items l.answer-iterator)
+    (drop l.job l.fn.right.answers.items)
     ≡ first_apart 0 (jobs_of l.fn.jobs) l.fn.before l.fn.right.rows l.fn.left.items l.fn.right.answers.items)

@@ -12,7 +12,8 @@ invariant-loop-part l =
     (goal.iterator-loop-part).can_next l.part-iterator ×
     (goal.iterator-loop-part).is_finite l.part-iterator ×
     (into_iter_len l.part-iterator ≡ length (into_iter_items l.part-iterator)) ×
-    (merged_on (jobs_of l.fn.jobs) l.whole (parts_of (into_iter_items l.part-iterator)) ≡ merged (jobs_of l.fn.jobs) (parts_of l.fn.parts.items)) ×
+    (merged_on (jobs_of l.fn.jobs) l.whole (parts_of (into_iter_items l.part-iterator))
+    ≡ merged (jobs_of l.fn.jobs) (parts_of l.fn.parts.items)) ×
     (rows_on l.whole (parts_of (into_iter_items l.part-iterator)) ≡ rows_in (parts_of l.fn.parts.items)) ×
     AreLeft l.whole (parts_of (into_iter_items l.part-iterator)) (parts_of l.fn.parts.items) ×
     AreDone (jobs_of l.fn.jobs) l.whole l.number l.yielded (into_iter_items l.part-iterator) l.fn.parts.items

@@ -8,10 +8,14 @@ pub returns-then-job-jobs-2-clause-refused : goal.returns-then-job-jobs-2-clause
 returns-then-job-jobs-2-clause-refused c =
     let items = into_iter_items c.loop-answer.answer-iterator in
     let none = nothing_left items _ c.loop-answer.invariant.2 c.in-None.ensures.steps.0 in
-    λ other. no_answer c.args.jobs.now c.loop-answer.job items c.args.answers.items c.loop-answer.all.items c.if-job-jobs-2.true none c.loop-answer.invariant.4
+    λ other. no_answer c.args.jobs.now c.loop-answer.job items c.args.answers.items c.loop-answer.all.items
+    c.if-job-jobs-2.true none c.loop-answer.invariant.4
 
 pub returns-then-job-jobs-2-clause-at : goal.returns-then-job-jobs-2-clause-at
 returns-then-job-jobs-2-clause-at c =
     let items = into_iter_items c.loop-answer.answer-iterator in
-    let none = nothing_left items _ c.loop-answer.invariant.2 c.in-None.ensures.steps.0 in
-    (refl, more_jobs c.args.jobs.now c.loop-answer.job items c.args.answers.items c.loop-answer.invariant.5 c.if-job-jobs-2.true none)
+    let none = nothing_left items _ c.loop-answer.invariant.2 c.in-None.ensures.steps.0 in (
+      refl,
+      more_jobs c.args.jobs.now c.loop-answer.job items c.args.answers.items c.loop-answer.invariant.5
+          c.if-job-jobs-2.true none,
+    )

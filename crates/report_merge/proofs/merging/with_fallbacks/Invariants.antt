@@ -13,5 +13,7 @@ invariant-loop-answer l =
     (goal.iterator-loop-answer).is_finite l.answer-iterator ×
     (into_iter_len l.answer-iterator ≡ length (into_iter_items l.answer-iterator)) ×
     (l.job ≤ length l.fn.jobs) ×
-    (onto l.all.items (with_fallbacks (jobs_of (drop l.job l.fn.jobs)) (into_iter_items l.answer-iterator)) ≡ with_fallbacks (jobs_of l.fn.jobs) l.fn.answers.items) ×
-    (first_unpaired l.job (jobs_of (drop l.job l.fn.jobs)) (into_iter_items l.answer-iterator) ≡ first_unpaired 0 (jobs_of l.fn.jobs) l.fn.answers.items)
+    (onto l.all.items (with_fallbacks (jobs_of (drop l.job l.fn.jobs)) (into_iter_items l.answer-iterator))
+    ≡ with_fallbacks (jobs_of l.fn.jobs) l.fn.answers.items) ×
+    (first_unpaired l.job (jobs_of (drop l.job l.fn.jobs)) (into_iter_items l.answer-iterator)
+    ≡ first_unpaired 0 (jobs_of l.fn.jobs) l.fn.answers.items)

@@ -11,7 +11,8 @@ returns-then-place-answers c =
     let ls = c.args.part.now.answers.items in
     let n = c.loop-place.place in
     let over = subst (λ (bs : List Answer). length bs ≤ n) c.as_slice-answers.ensures.value c.if-place-answers.true in
-    no_more_answers (jobs_of (drop n c.args.jobs.now)) n c.args.part.now.rows _ (drop n ls) _ (drop_all n ls over) c.loop-place.invariant
+    no_more_answers (jobs_of (drop n c.args.jobs.now)) n c.args.part.now.rows _ (drop n ls) _ (drop_all n ls over)
+    c.loop-place.invariant
 
 pub loop-place-preserved : goal.loop-place-preserved
 loop-place-preserved c =
@@ -23,7 +24,10 @@ loop-place-preserved c =
     let a = c.index-answers-place.result in
     let value = c.as_slice-answers.ensures.value in
     let there : n < length ls = subst (λ (bs : List Answer). n < length bs) value c.if-place-answers.false in
-    let answer_is : a ≡ get_or ls n a = subst (λ (bs : List Answer). a ≡ get_or bs n a) value c.index-answers-place.is in
+    let answer_is : a ≡ get_or ls n a = subst (λ (bs : List Answer). a ≡ get_or bs n a) value
+    c.index-answers-place.is in
     let can : can_answer (named_answers (jobs_of (take n js)) (take n ls)) (job_of job) rows a ≡ true =
-    subst (λ (bs : List Answer). can_answer (named_answers (jobs_of (take n js)) (take n bs)) (job_of job) rows a ≡ true) value (sym c.in_ok-can_answer.ensures ∙ c.if-not-branch.false) in
-    next_answer js ls n rows job a c.loop-place-test.true there c.index-jobs-place.is answer_is _ can c.loop-place.invariant
+    subst (λ (bs : List Answer). can_answer (named_answers (jobs_of (take n js)) (take n bs)) (job_of job) rows a
+    ≡ true) value (sym c.in_ok-can_answer.ensures ∙ c.if-not-branch.false) in
+    next_answer js ls n rows job a c.loop-place-test.true there c.index-jobs-place.is answer_is _ can
+    c.loop-place.invariant

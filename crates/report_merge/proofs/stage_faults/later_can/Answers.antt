@@ -10,7 +10,8 @@ pub returns-in-Some : goal.returns-in-Some
 returns-in-Some c =
     c.stage_can.ensures
     ∙ ap (λ (s : JobStage). stage_can (job_stage_of s) c.args.items c.args.fault) c.in-Some.ensures.lookup.1
-    ∙ sym (at_stage c.args.stages.now (terminal_of c.args.terminal.now) c.args.items c.args.place c.args.fault _ (within _ _ c.in-Some.ensures.lookup.0))
+    ∙ sym (at_stage c.args.stages.now (terminal_of c.args.terminal.now) c.args.items c.args.place c.args.fault _
+    (within _ _ c.in-Some.ensures.lookup.0))
 
 pub returns-then-place-stages : goal.returns-then-place-stages
 returns-then-place-stages c =

@@ -6,4 +6,5 @@ use Rattle.report_merge.proofs.unmergeable.are_placeless.Given as goal
 
 -- the stages so far have neither cells nor rows
 abbrev pub invariant-loop-stage : goal.invariant-loop-stage
-invariant-loop-stage l = list_all stage_is_placeless (job_stages_of (drop l.stage-index l.stages)) ≡ list_all stage_is_placeless (job_stages_of l.stages)
+invariant-loop-stage l = list_all stage_is_placeless (job_stages_of (drop l.stage-index l.stages))
+    ≡ list_all stage_is_placeless (job_stages_of l.stages)

@@ -5,4 +5,5 @@ use Rattle.report_merge.proofs.unmergeable.first_unmergeable.Given as goal
 
 -- each job so far can be merged
 abbrev pub invariant-loop-place : goal.invariant-loop-place
-invariant-loop-place l = unmergeable_below l.place (jobs_of (take l.place l.jobs)) (jobs_of (drop l.place l.jobs)) ≡ first_unmergeable (jobs_of l.jobs)
+invariant-loop-place l = unmergeable_below l.place (jobs_of (take l.place l.jobs)) (jobs_of (drop l.place l.jobs))
+    ≡ first_unmergeable (jobs_of l.jobs)

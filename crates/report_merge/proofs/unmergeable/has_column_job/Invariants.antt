@@ -5,4 +5,5 @@ use Rattle.report_merge.proofs.unmergeable.has_column_job.Given as goal
 
 -- none of the names so far
 abbrev pub invariant-loop-name : goal.invariant-loop-name
-invariant-loop-name l = has_column_job (jobs_of l.jobs) (drop l.name-index l.names) ≡ has_column_job (jobs_of l.jobs) l.names
+invariant-loop-name l = has_column_job (jobs_of l.jobs) (drop l.name-index l.names)
+    ≡ has_column_job (jobs_of l.jobs) l.names

@@ -1,7 +1,9 @@
-use Rattle.std.proofs.Common.{◌≡◌, ◌+◌, ◌≤◌, ◌++◌, ◌∷◌, [], List, drop, length, take, set, refl, sym, ap, subst, ◌∙◌, append-nil, arith, rules}
+use Rattle.std.proofs.Common.{◌≡◌, ◌+◌, ◌≤◌, ◌++◌, ◌∷◌, [], List, drop, length, take, set, true, false, refl, sym, ap}
+use Rattle.std.proofs.Common.{subst, ◌∙◌, append-nil, arith, rules}
 use Rattle.std.proofs.lemmas.List.{drop_all, length-set, take-append-drop, take_more_set}
 use Rattle.lambda_values.specs.declared.item.Item.{Item}
-use Rattle.sort_ops.specs.Firsts.{firsts}
+use Rattle.sort_ops.specs.Firsts.{firsts, is_among}
+use Rattle.sort_ops.specs.Parts.{values_in}
 use Rattle.sort_ops.specs.NewValues.{AreOnce, Knows, is_in}
 use Rattle.sort_ops.proofs.NewLemmas.{again, fewer_once, next_item, one_once, written}
 use Rattle.sort_ops.proofs.lookup.take_out.Goals.{then-stays, else-stays}
@@ -38,24 +40,30 @@ loop-position-preserved c =
     let within : at + 1 ≤ length xs = search (rules, i.long, i.end) in
     let next : drop at xs ≡ x ∷ drop (at + 1) xs = next_item xs at x within c.index-item.ensures in
     let seen = take k xs in
+    let looked : take k c.deref.result.now ≡ seen = ap (take k) c.deref.ensures.value in
+    let known : Knows c.loop-position.lookup (take k c.deref.result.now) =
+    subst (Knows c.loop-position.lookup) (sym looked) i.known in
     elim c.if-stays.branch [
       | then-stays w ↦
           let is : c.if-stays.items.items ≡ set xs k x = search rules in
           let more : c.if-stays.kept ≡ k + 1 = w.kept-is in
           let front : take c.if-stays.kept c.if-stays.items.items ≡ seen ++ x ∷ [] =
           (λ j. take (more j) (is j)) ∙ take_more_set xs k x (omega (arith, within, i.kept)) in
-          let same : take c.if-stays.kept c.if-stays.items.items ++ drop (at + 1) c.if-stays.items.items ≡ seen ++ drop at xs =
+          let same : take c.if-stays.kept c.if-stays.items.items ++ drop (at + 1) c.if-stays.items.items
+          ≡ seen ++ drop at xs =
           (λ j. take (more j) (is j) ++ drop (at + 1) (is j)) ∙ written xs k at x i.kept within next in
           record {
             long = ap length is ∙ length-set xs k x ∙ i.long;
             end = i.end;
             kept = omega (arith, more, i.kept);
             firsts = ap (firsts []) same ∙ i.firsts;
-            known = subst (Knows c.stays.new.self) (sym front) (c.stays.ensures.new w.if-stays.true seen i.known);
+            known = subst (Knows c.stays.new.self) (ap (λ (l : List Item). l ++ x ∷ []) looked ∙ sym front)
+                (c.stays.ensures.new w.if-stays.true known);
             class = c.stays.ensures.class ∙ i.class;
             once = λ going before. subst (AreOnce c.args.lookup.now.class) (sym front)
                 (one_once c.args.lookup.now.class seen x (i.once (c.stays.ensures.going going) before)
-                (λ inside. c.stays.ensures.once w.if-stays.true going seen i.known (ap (λ l. is_in l x.value) i.class ∙ inside)));
+                (λ inside. subst (λ (l : List Item). is_among x.value (values_in l) ≡ false) looked
+                (c.stays.ensures.once w.if-stays.true going known (ap (λ l. is_in l x.value) i.class ∙ inside))));
             others = λ d once. subst (AreOnce d) (sym same) (i.others d once);
           }
       | else-stays w ↦
@@ -67,13 +75,17 @@ loop-position-preserved c =
             long = ap length is ∙ i.long;
             end = i.end;
             kept = omega (arith, more, i.kept);
-            firsts = ap (firsts []) ((λ j. front j ++ rest j)) ∙ again seen x (drop (at + 1) xs) (c.stays.ensures.again w.if-stays.false seen i.known)
+            firsts = ap (firsts []) ((λ j. front j ++ rest j)) ∙ again seen x (drop (at + 1) xs)
+                (subst (λ (l : List Item). is_among x.value (values_in l) ≡ true) looked
+                (c.stays.ensures.again w.if-stays.false known))
                 ∙ ap (λ (l : List Item). firsts [] (seen ++ l)) (sym next) ∙ i.firsts;
-            known = subst (Knows c.stays.new.self) (sym front) (c.stays.ensures.old w.if-stays.false seen i.known);
+            known = subst (Knows c.stays.new.self) (looked ∙ sym front) (c.stays.ensures.old w.if-stays.false known);
             class = c.stays.ensures.class ∙ i.class;
-            once = λ going before. subst (AreOnce c.args.lookup.now.class) (sym front) (i.once (c.stays.ensures.going going) before);
+            once = λ going before. subst (AreOnce c.args.lookup.now.class) (sym front)
+                (i.once (c.stays.ensures.going going) before);
             others = λ d once. subst (AreOnce d) (λ j. sym front j ++ sym rest j)
-                (fewer_once d seen x (drop (at + 1) xs) (subst (λ (l : List Item). AreOnce d (seen ++ l)) next (i.others d once)));
+                (fewer_once d seen x (drop (at + 1) xs)
+                (subst (λ (l : List Item). AreOnce d (seen ++ l)) next (i.others d once)));
           }
     ]
 
@@ -81,21 +93,27 @@ pub returns-clause-firsts : goal.returns-clause-firsts
 returns-clause-firsts c =
     let i = c.loop-position.invariant in
     let xs = c.loop-position.items.items in
-    let none : drop c.loop-position.position xs ≡ [] = drop_all c.loop-position.position xs (search (rules, i.long, i.end)) in
-    ap (firsts []) (c.truncate.ensures.items ∙ sym (append-nil (take c.loop-position.kept xs)) ∙ ap (λ (l : List Item). take c.loop-position.kept xs ++ l) (sym none)) ∙ i.firsts
+    let none : drop c.loop-position.position xs ≡ [] =
+    drop_all c.loop-position.position xs (search (rules, i.long, i.end)) in
+    ap (firsts []) (c.truncate.ensures.items ∙ sym (append-nil (take c.loop-position.kept xs))
+    ∙ ap (λ (l : List Item). take c.loop-position.kept xs ++ l) (sym none)) ∙ i.firsts
 
 pub returns-clause-known : goal.returns-clause-known
-returns-clause-known c = subst (Knows c.loop-position.lookup) (sym c.truncate.ensures.items) c.loop-position.invariant.known
+returns-clause-known c = subst (Knows c.loop-position.lookup) (sym c.truncate.ensures.items)
+    c.loop-position.invariant.known
 
 pub returns-clause-class : goal.returns-clause-class
 returns-clause-class c = c.loop-position.invariant.class
 
 pub returns-clause-once : goal.returns-clause-once
-returns-clause-once c = λ going once. subst (AreOnce c.args.lookup.now.class) (sym c.truncate.ensures.items) (c.loop-position.invariant.once going once)
+returns-clause-once c = λ going once. subst (AreOnce c.args.lookup.now.class) (sym c.truncate.ensures.items)
+    (c.loop-position.invariant.once going once)
 
 pub returns-clause-others : goal.returns-clause-others
 returns-clause-others c = λ k once.
     let i = c.loop-position.invariant in
     let xs = c.loop-position.items.items in
-    let none : drop c.loop-position.position xs ≡ [] = drop_all c.loop-position.position xs (search (rules, i.long, i.end)) in
-    subst (AreOnce k) (ap (λ (l : List Item). take c.loop-position.kept xs ++ l) none ∙ append-nil (take c.loop-position.kept xs) ∙ sym c.truncate.ensures.items) (i.others k once)
+    let none : drop c.loop-position.position xs ≡ [] =
+    drop_all c.loop-position.position xs (search (rules, i.long, i.end)) in
+    subst (AreOnce k) (ap (λ (l : List Item). take c.loop-position.kept xs ++ l) none
+    ∙ append-nil (take c.loop-position.kept xs) ∙ sym c.truncate.ensures.items) (i.others k once)

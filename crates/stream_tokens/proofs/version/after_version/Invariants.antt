@@ -6,7 +6,8 @@ use Rattle.stream_tokens.proofs.version.after_version.Given as goal
 -- the lines that were read are skipped ones
 abbrev pub invariant-loop-line : goal.invariant-loop-line
 invariant-loop-line l =
-    (version_in l.newest (lines_at l.left) ≡ version_in l.newest (lines_at l.fn.lines)) × (texts_of_lines l.newest (lines_at l.left) ≡ texts_of_lines l.newest (lines_at l.fn.lines))
+    (version_in l.newest (lines_at l.left) ≡ version_in l.newest (lines_at l.fn.lines))
+    × (texts_of_lines l.newest (lines_at l.left) ≡ texts_of_lines l.newest (lines_at l.fn.lines))
 
 abbrev pub decreases-loop-line : goal.decreases-loop-line
 decreases-loop-line l = length l.left.rest.now

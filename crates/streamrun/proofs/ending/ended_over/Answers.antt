@@ -8,8 +8,10 @@ returns g c =
     let run = c.run-answer.ensures in (
       c.run-answer.result,
       c.status_shown.ensures,
-      answered_again g.C.CountedRead.remaining (g.J.CountedRead.remaining c.args.jobs.now) (asked_of c.args.settings.now) (g.W.CountedWrite.contents c.args.writer.now)
-          (g.W.CountedWrite.contents c.run-answer.new.writer) _ c.args.columns c.run-answer.result refl (run.report, run.fault),
+      answered_again g.C.CountedRead.remaining (g.J.CountedRead.remaining c.args.jobs.now)
+          (asked_of c.args.settings.now) (g.W.CountedWrite.contents c.args.writer.now)
+          (g.W.CountedWrite.contents c.run-answer.new.writer) _ c.args.columns c.run-answer.result refl
+          (run.report, run.fault),
       run.columns_read_up,
       run.columns_failed,
       record {

@@ -9,7 +9,8 @@ returns-in-Some g c =
     rw c.in-Some.is (
       over.0,
       over.1,
-      answered_again g.C.CountedRead.remaining (g.J.CountedRead.remaining c.args.jobs.now) (asked_of c.args.settings.now) (g.W.CountedWrite.contents c.args.writer.now)
+      answered_again g.C.CountedRead.remaining (g.J.CountedRead.remaining c.args.jobs.now)
+          (asked_of c.args.settings.now) (g.W.CountedWrite.contents c.args.writer.now)
           (g.W.CountedWrite.contents c.ended_over.new.writer) _ c.in-Some.reader over.0 refl over.2,
       over.3,
       over.4,

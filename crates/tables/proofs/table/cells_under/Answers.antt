@@ -11,5 +11,6 @@ returns-in_err-column c =
 
 pub returns : goal.returns
 returns c =
-    let found : find (λ k. bytes_eq k.name.items c.args.name.now) c.args.columns.now ≡ Some c.in_ok-column.column.now = search rules in
+    let found : find (λ k. bytes_eq k.name.items c.args.name.now) c.args.columns.now ≡ Some c.in_ok-column.column.now =
+    search rules in
     rw (c.as_slice.ensures.value, cells_named-map, found) refl

@@ -22,7 +22,9 @@ pub found-requires-send-S-Part : goal.found-requires-send-S-Part
 found-requires-send-S-Part g c = λ κs within. param_send 2 _ (arg_send _ no (parts.the_row _) (part_send _))
 
 pub found-requires-send-S-Source : goal.found-requires-send-S-Source
-found-requires-send-S-Source g c = λ κs within. param_send 3 _ (arg_send _ no (given_walks.the_row (record { mir = static; lft = _ })) (source_send _))
+found-requires-send-S-Source g c = λ κs within. param_send 3 _
+    (arg_send _ no (given_walks.the_row (record { mir = static; lft = _ })) (source_send _))
 
 pub found-requires-sync-S-Source : goal.found-requires-sync-S-Source
-found-requires-sync-S-Source g c = λ κs within. param_sync 3 _ (arg_sync _ no (given_walks.the_row (record { mir = static; lft = _ })) (source_sync _))
+found-requires-sync-S-Source g c = λ κs within. param_sync 3 _
+    (arg_sync _ no (given_walks.the_row (record { mir = static; lft = _ })) (source_sync _))

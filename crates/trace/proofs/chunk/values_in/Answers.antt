@@ -14,5 +14,8 @@ loop-item-preserved c =
     let items = c.deref-item-items.result.now in
     let v : ℤ = (get_or items c.loop-item.item-index no_item).value in
     let fits : FitsSigned w64 v = search rules in
-    let more = map_more (λ (x : Item). x.value) (flat_map (λ piece. piece.items) (take c.loop-piece.piece-index c.args.pieces.now)) items c.loop-item.item-index no_item c.loop-item-test.true in
-    pushed_is c.push.new.self.items c.loop-item.values.items _ (to_z w64 (of_z w64 v)) v c.in_ok-push.ensures.items c.loop-item.invariant (to_z-of_z w64 v fits) ∙ sym more
+    let more = map_more (λ (x : Item). x.value)
+    (flat_map (λ piece. piece.items) (take c.loop-piece.piece-index c.args.pieces.now)) items c.loop-item.item-index
+    no_item c.loop-item-test.true in
+    pushed_is c.push.new.self.items c.loop-item.values.items _ (to_z w64 (of_z w64 v)) v c.in_ok-push.ensures.items
+    c.loop-item.invariant (to_z-of_z w64 v fits) ∙ sym more

@@ -17,4 +17,8 @@ decreases-feed_inner g l = 2 * length l.stages.now + 1
 
 abbrev pub invariant-feed_inner-loop-position : goal.invariant-feed_inner-loop-position
 invariant-feed_inner-loop-position g l = (g.S.LongSink.flow l.sink ≡ flow.More)
-    × ((xs : List Item) → g.S.LongSink.has_taken l.initial.sink xs → IsFed g.S.LongSink.has_taken xs (pipe l.first_stage (stages_of l.stages) l.env (trace (take l.position (at_place l.values.origin (run_or_listed l.values.run l.values.listed.now))) end.Done)) (Ok fed.More) l.sink)
+    × ((xs : List Item) → g.S.LongSink.has_taken l.initial.sink xs
+    → IsFed g.S.LongSink.has_taken xs
+    (pipe l.first_stage (stages_of l.stages) l.env
+    (trace (take l.position (at_place l.values.origin (run_or_listed l.values.run l.values.listed.now))) end.Done))
+    (Ok fed.More) l.sink)

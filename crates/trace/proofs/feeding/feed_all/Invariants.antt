@@ -10,4 +10,7 @@ use Rattle.trace.proofs.feeding.feed_all.Given as goal
 
 abbrev pub invariant-loop-position : goal.invariant-loop-position
 invariant-loop-position g l = (g.S.LongSink.flow l.sink ≡ flow.More)
-    × ((xs : List Item) → g.S.LongSink.has_taken l.initial.sink xs → IsFed g.S.LongSink.has_taken xs (pipe l.first_stage (stages_of l.stages) l.env (trace (take l.position (g.I.SourceItems.items l.source)) end.Done)) (Ok fed.More) l.sink)
+    × ((xs : List Item) → g.S.LongSink.has_taken l.initial.sink xs
+    → IsFed g.S.LongSink.has_taken xs
+    (pipe l.first_stage (stages_of l.stages) l.env
+    (trace (take l.position (g.I.SourceItems.items l.source)) end.Done)) (Ok fed.More) l.sink)

@@ -16,9 +16,12 @@ returns-else-eval_long-self-clause-walk t c =
     let env = c.args.line.env.now in
     let out = c.eval_long.new.out in
     let r = c.eval_long.result in
-    let reaches = reaches_lanes b.start b.origins.items c.deref-2.result.now b.values.items c.deref.result.now c.of.result c.of.ensures.place c.deref-2.ensures.value c.deref.ensures.value (λ x. long_value image x env) (at out) b.live r c.eval_long.ensures in
+    let reaches = reaches_lanes b.start b.origins.items c.deref-2.result.now b.values.items c.deref.result.now
+    c.of.result c.of.ensures.place c.deref-2.ensures.value c.deref.ensures.value (λ x. long_value image x env)
+    (at out) b.live r c.eval_long.ensures in
     let all : b.live ≤ r.live = omega (arith, c.if-eval_long-self.false) in
-    let step = map_all b.live b.start b.origins.items b.values.items c.args.flags.now b.end c.args.self.now env c.args.line.first r image out reaches all c.self.view_is in
+    let step = map_all b.live b.start b.origins.items b.values.items c.args.flags.now b.end c.args.self.now env
+    c.args.line.first r image out reaches all c.self.view_is in
     let images = ap (λ v. v.items) c.swap.ensures.x_after ∙ with_items_is b.spare out (search (rules, places)) in
     let on = rw (images, step, split.first, split.env, add-one) at c.sift.ensures.walk in
     rw (split.stages, c.in-Some-Map-default.field-0-0-is) on
@@ -32,10 +35,16 @@ returns-else-eval_bool-self-clause-walk t c =
     let out = c.eval_bool.new.out in
     let r = c.eval_bool.result in
     let passes = c.deref-in-Some-Filter-default.result.now in
-    let passes_are : passes ≡ out = c.deref-in-Some-Filter-default.ensures.value ∙ with_items_is b.spare out (search (rules, places)) in
-    let here = reaches_lanes b.start b.origins.items c.deref-2.result.now b.values.items c.deref.result.now c.of.result c.of.ensures.place c.deref-2.ensures.value c.deref.ensures.value (λ x. flagged (truth_value test x env)) (at out) b.live r c.eval_bool.ensures in
-    let reaches = subst (λ (zs : List ℤ). Reaches (λ k. flagged (truth_value test (item_at b.start b.origins.items b.values.items k) env)) (at zs) b.live r) (sym passes_are) here in
+    let passes_are : passes ≡ out = c.deref-in-Some-Filter-default.ensures.value
+    ∙ with_items_is b.spare out (search (rules, places)) in
+    let here = reaches_lanes b.start b.origins.items c.deref-2.result.now b.values.items c.deref.result.now c.of.result
+    c.of.ensures.place c.deref-2.ensures.value c.deref.ensures.value (λ x. flagged (truth_value test x env))
+    (at out) b.live r c.eval_bool.ensures in
+    let reaches = subst (λ (zs : List ℤ). Reaches
+    (λ k. flagged (truth_value test (item_at b.start b.origins.items b.values.items k) env)) (at zs) b.live r)
+    (sym passes_are) here in
     let all : b.live ≤ r.live = omega (arith, c.if-eval_bool-self.false) in
-    let step = filter_all b.live b.start b.origins.items b.values.items c.args.flags.now b.end c.args.self.now env c.args.line.first r test passes c.select.new.out reaches all c.select.ensures c.self.view_is in
+    let step = filter_all b.live b.start b.origins.items b.values.items c.args.flags.now b.end c.args.self.now env
+    c.args.line.first r test passes c.select.new.out reaches all c.select.ensures c.self.view_is in
     let on = rw (step, split.first, split.env, add-one) at c.sift-in-Some-Filter-default.ensures.walk in
     rw (split.stages, c.in-Some-Filter-default.field-0-0-is) on

@@ -23,8 +23,10 @@ returns c =
     let new_values = with_items b.values values in
     let new_origins = with_items b.origins origins in
     let value : (k : ℕ) → k < n → at new_values.items k ≡ at xs k =
-    λ k below. ap (λ (ys : List ℤ). at ys k) values_are ∙ sym (get_or-take n values k (pos 0) below) ∙ ap (λ (ys : List ℤ). get_or ys k (pos 0)) c.copy_front.ensures.front in
+    λ k below. ap (λ (ys : List ℤ). at ys k) values_are ∙ sym (get_or-take n values k (pos 0) below)
+    ∙ ap (λ (ys : List ℤ). get_or ys k (pos 0)) c.copy_front.ensures.front in
     let origin : (k : ℕ) → k < n → origin_at l.start new_origins.items k ≡ origin_at l.start os k =
     λ k below. ap (λ (ys : List ℕ). origin_at l.start ys k) origins_are ∙ c.copy_places.ensures.places k below in
-    let same = lanes_same n (item_at l.start new_origins.items new_values.items) (item_at l.start os xs) (λ k below. let a = value k below in let o = origin k below in cc) in
+    let same = lanes_same n (item_at l.start new_origins.items new_values.items) (item_at l.start os xs)
+    (λ k below. let a = value k below in let o = origin k below in cc) in
     ap (λ (ys : List Item). trace ys end.Done) same

@@ -18,5 +18,7 @@ returns c =
     let first : to_z w64 (of_z w64 r.first) ≡ r.first = search rules in
     let origins = b.origins.items in
     let g : ℕ → Item = item_at (Some r.origin) origins out in
-    let same = lanes_same r.count g (counted_item r.origin r.first) (λ k below. let v = c.list_numbers.ensures k below ∙ ap (λ (z : ℤ). wrap (z +ℤ pos k)) first in (λ i. record { origin = r.origin + k; value = v i })) in
+    let same = lanes_same r.count g (counted_item r.origin r.first)
+    (λ k below. let v = c.list_numbers.ensures k below ∙ ap (λ (z : ℤ). wrap (z +ℤ pos k)) first in
+    (λ i. record { origin = r.origin + k; value = v i })) in
     rw numbers (ap (λ (xs : List Item). trace xs end.Done) (same ∙ lanes_counted r.origin r.first r.count r.in_range))

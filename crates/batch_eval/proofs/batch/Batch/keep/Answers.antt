@@ -19,7 +19,11 @@ returns c =
     let new_values = with_items b.values values in
     let new_origins = with_items b.origins origins in
     let value : (j : ℕ) → j < n → at new_values.items j ≡ at b.values.items (get_or (passing flags b.live) j 0) =
-    λ j below. ap (λ (xs : List ℤ). at xs j) values_are ∙ kept.values j below ∙ ap (λ (xs : List ℤ). at xs (get_or (passing flags b.live) j 0)) c.deref_mut.ensures.value in
-    let origin : (j : ℕ) → j < n → get_or new_origins.items j 0 ≡ origin_at b.start b.origins.items (get_or (passing flags b.live) j 0) =
-    λ j below. ap (λ (xs : List ℕ). get_or xs j 0) origins_are ∙ kept.origins j below ∙ ap (λ (xs : List ℕ). origin_at b.start xs (get_or (passing flags b.live) j 0)) c.deref_mut-2.ensures.value in
-    kept_lanes b.live b.start b.origins.items b.values.items flags b.end c.args.self.now new_values.items new_origins.items n kept.count value origin c.self.view_is
+    λ j below. ap (λ (xs : List ℤ). at xs j) values_are ∙ kept.values j below
+    ∙ ap (λ (xs : List ℤ). at xs (get_or (passing flags b.live) j 0)) c.deref_mut.ensures.value in
+    let origin : (j : ℕ) → j < n → get_or new_origins.items j 0
+    ≡ origin_at b.start b.origins.items (get_or (passing flags b.live) j 0) =
+    λ j below. ap (λ (xs : List ℕ). get_or xs j 0) origins_are ∙ kept.origins j below
+    ∙ ap (λ (xs : List ℕ). origin_at b.start xs (get_or (passing flags b.live) j 0)) c.deref_mut-2.ensures.value in
+    kept_lanes b.live b.start b.origins.items b.values.items flags b.end c.args.self.now new_values.items
+    new_origins.items n kept.count value origin c.self.view_is

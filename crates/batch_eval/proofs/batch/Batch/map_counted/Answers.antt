@@ -21,7 +21,11 @@ returns c = λ is.
     let env = c.args.line.env.now in
     let image = long_of c.args.image.now in
     let same : to_z w64 (of_z w64 r.first) ≡ r.first = search rules in
-    let reaches = subst (λ (z : ℤ). Reaches (λ k. long_value image (counted_item r.origin z k) env) (at out) r.count c.in-Some.reached) same c.in-Some.ensures in
+    let reaches = subst (λ (z : ℤ). Reaches (λ k. long_value image (counted_item r.origin z k) env) (at out) r.count
+    c.in-Some.reached) same c.in-Some.ensures in
     let images = with_items_is b.values out (search (rules, places)) in
-    let one = each_mapped image env c.args.line.first r.count (counted_item r.origin r.first) (at out) c.in-Some.reached end.Done reaches in
-    rw (images, c.stopped-self-inside.ensures) (sym (sym (ap (λ (xs : List Item). each (of_item c.args.line.first (abstract_map image) env) xs end.Done) (lanes_counted r.origin r.first r.count r.in_range)) ∙ one))
+    let one = each_mapped image env c.args.line.first r.count (counted_item r.origin r.first) (at out) c.in-Some.reached
+    end.Done reaches in
+    rw (images, c.stopped-self-inside.ensures)
+    (sym (sym (ap (λ (xs : List Item). each (of_item c.args.line.first (abstract_map image) env) xs end.Done)
+    (lanes_counted r.origin r.first r.count r.in_range)) ∙ one))

@@ -7,4 +7,5 @@ use Rattle.batch_eval.proofs.batch.BatchSourceItems.count.Goals as goal
 pub returns : goal.returns
 returns c =
     let b = c.self.inside in
-    sym (length_lanes b.live (item_at b.start b.origins.items b.values.items)) ∙ ap (λ (t : Trace). length t.items) c.self.view_is
+    sym (length_lanes b.live (item_at b.start b.origins.items b.values.items))
+    ∙ ap (λ (t : Trace). length t.items) c.self.view_is

@@ -16,4 +16,5 @@ returns g c =
     let small : of_z w64 x < 2 ^ 64 = search rules in
     let down : d ≡ wrap (rounded_down x (g.R.Divisor.number c.args.by)) = search rules in
     let is : d ≡ wrap (rounded_down x y) = down ∙ ap (λ n. wrap (rounded_down x n)) number in
-    rw number (rw (divisor_counts y c.number.ensures.above) (ap Ok (floor_rest x y d small c.ranges.x divisor_fits fits is)))
+    rw number (rw (divisor_counts y c.number.ensures.above)
+    (ap Ok (floor_rest x y d small c.ranges.x divisor_fits fits is)))

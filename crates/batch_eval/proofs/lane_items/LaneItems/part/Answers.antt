@@ -14,7 +14,8 @@ returns-in_default-clause-items c =
     let none_there : l.start ≡ None = search rules in
     let within : p + n ≤ length l.values.now = omega (arith, c.requires) in
     part_items l.start None os (take n (drop p os)) l.values.now p n within (λ k below.
-    ap (λ (o : Option ℕ). origin_at o os (p + k)) none_there ∙ sym (get_or-take n (drop p os) k 0 below ∙ get_or-drop p os k 0))
+    ap (λ (o : Option ℕ). origin_at o os (p + k)) none_there
+    ∙ sym (get_or-take n (drop p os) k 0 below ∙ get_or-drop p os k 0))
     ∙ ap (λ (m : ℕ). take m (drop p (laid_items l.start os l.values.now))) same
 
 pub returns-clause-items : goal.returns-clause-items

@@ -8,7 +8,8 @@ use Rattle.batch_eval.proofs.lane_items.LaneItemsSourceItems.item_at.Goals as go
 pub origin_of-requires-clause-counts : goal.origin_of-requires-clause-counts
 origin_of-requires-clause-counts c =
     let l = c.args.self.now in
-    let less : c.args.position + 1 ≤ length l.values.now = omega (arith, c.requires, length_laid l.start l.places.now l.values.now) in
+    let less : c.args.position + 1 ≤ length l.values.now =
+    omega (arith, c.requires, length_laid l.start l.places.now l.values.now) in
     counts_from l.start (length l.values.now) (c.args.position + 1) less l.counts
 
 pub origin_of-requires-clause-listed : goal.origin_of-requires-clause-listed
@@ -20,7 +21,8 @@ origin_of-requires-clause-listed c = λ none_there.
 pub offset_bounds-self-lane : goal.offset_bounds-self-lane
 offset_bounds-self-lane c =
     let l = c.args.self.now in
-    let inside : c.args.position < length l.values.now = omega (arith, c.requires, length_laid l.start l.places.now l.values.now) in
+    let inside : c.args.position < length l.values.now =
+    omega (arith, c.requires, length_laid l.start l.places.now l.values.now) in
     search (rules, inside)
 
 pub bounds-self-lane : goal.bounds-self-lane
@@ -33,5 +35,6 @@ returns c =
     let g = item_at l.start l.places.now l.values.now in
     let inside : k < length l.values.now = omega (arith, c.requires, length_laid l.start l.places.now l.values.now) in
     let fits : to_z w64 (of_z w64 (at l.values.now k)) ≡ at l.values.now k = search rules in
-    let same : g k ≡ record { origin = c.origin_of.result; value = to_z w64 (of_z w64 (at l.values.now k)) } = λ i. record { origin = sym c.origin_of.ensures i; value = sym fits i } in
+    let same : g k ≡ record { origin = c.origin_of.result; value = to_z w64 (of_z w64 (at l.values.now k)) } =
+    λ i. record { origin = sym c.origin_of.ensures i; value = sym fits i } in
     lane_at (length l.values.now) k g inside ∙ ap Some same

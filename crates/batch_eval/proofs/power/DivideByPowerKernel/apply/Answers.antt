@@ -17,5 +17,6 @@ returns c =
     let absolute : c.unsigned_abs.result ≡ unsigned_abs x = search rules in
     let far : c.distance.result ≡ low_six_bits k = search rules in
     let is : r ≡ wrap (with_sign_of x (c.unsigned_abs.result / 2 ^ c.distance.result)) = search rules in
-    let size : c.unsigned_abs.result / 2 ^ c.distance.result ≡ unsigned_abs x / power k = ap (λ (a : ℕ). a / 2 ^ c.distance.result) absolute ∙ ap (λ (n : ℕ). unsigned_abs x / 2 ^ n) far in
+    let size : c.unsigned_abs.result / 2 ^ c.distance.result ≡ unsigned_abs x / power k =
+    ap (λ (a : ℕ). a / 2 ^ c.distance.result) absolute ∙ ap (λ (n : ℕ). unsigned_abs x / 2 ^ n) far in
     ap Ok (to_z-of_z w64 r fits) ∙ quotient_by_power x k r (c.unsigned_abs.result / 2 ^ c.distance.result) size is

@@ -17,5 +17,7 @@ returns c =
     let absolute : c.unsigned_abs.result ≡ unsigned_abs x = search rules in
     let masked : c.mask.result ≡ power k - 1 = search rules in
     let is : r ≡ wrap (with_sign_of x (bit_and c.unsigned_abs.result c.mask.result)) = search rules in
-    let size : bit_and c.unsigned_abs.result c.mask.result ≡ unsigned_abs x % power k = ap (λ (a : ℕ). bit_and a c.mask.result) absolute ∙ ap (λ (m : ℕ). bit_and (unsigned_abs x) m) masked ∙ and_mask (unsigned_abs x) (low_six_bits k) in
+    let size : bit_and c.unsigned_abs.result c.mask.result ≡ unsigned_abs x % power k =
+    ap (λ (a : ℕ). bit_and a c.mask.result) absolute ∙ ap (λ (m : ℕ). bit_and (unsigned_abs x) m) masked
+    ∙ and_mask (unsigned_abs x) (low_six_bits k) in
     ap Ok (to_z-of_z w64 r fits) ∙ rest_by_power x k r (bit_and c.unsigned_abs.result c.mask.result) size is

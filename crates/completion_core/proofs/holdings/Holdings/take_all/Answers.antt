@@ -22,7 +22,8 @@ loop-node-preserved c a i =
     let p : ℕ = c.loop-node.node-index in
     let same = c.as_slice-node-items.ensures.same in
     let inside : p < length c.args.nodes.now = subst (λ l. p < length l) same c.loop-node-test.true in
-    let there : get_or c.as_slice-node-items.result.now p 0 ≡ get_or c.args.nodes.now p 0 = ap (λ l. get_or l p 0) same in
+    let there : get_or c.as_slice-node-items.result.now p 0 ≡ get_or c.args.nodes.now p 0 =
+    ap (λ l. get_or l p 0) same in
     let now_placed = ap (λ x. place c.args.actor x 1 a i) there in
     let so_far = c.loop-node.invariant a i in
     let step = c.take.ensures a i in

@@ -9,5 +9,12 @@ load-requires g c =
     let words = c.args.self.now.words in
     let few = c.requires.segment.0 in
     let told = c.requires.segment.1 in
-    let picked = c.requires.picked.0 in
-    (c.requires.table, omega arith, sees_told (λ i. IsDecisive (g.S.Segments.outcome z i) (g.S.Segments.source z i)) g.A.CutActor.decides (λ i p. (c.requires.rule i p).1) (λ i p. (c.requires.rule i p).0) (g.S.Segments.count z + 1) g.A.CutActor.words picked _ _ g.A.CutActor.actor c.args.segment _ c.requires.picked.1 (omega arith))
+    let picked = c.requires.picked.0 in (
+      c.requires.table,
+      omega arith,
+      sees_told (λ i. IsDecisive (g.S.Segments.outcome z i) (g.S.Segments.source z i))
+          g.A.CutActor.decides (λ i p. (c.requires.rule i p).1) (λ i p. (c.requires.rule i p).0)
+          (g.S.Segments.count z + 1) g.A.CutActor.words picked _ _ g.A.CutActor.actor c.args.segment _
+          c.requires.picked.1
+          (omega arith),
+    )

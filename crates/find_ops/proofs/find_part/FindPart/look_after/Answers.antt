@@ -7,7 +7,8 @@ use Rattle.find_ops.proofs.find_part.FindPart.look_after.Goals as goal
 
 pub returns-then-is_some : goal.returns-then-is_some
 returns-then-is_some g c = record {
-  stands = λ t s. settled (find_of c.args.terminal.now) c.args.stage c.args.env.now c.args.self t (trace (g.I.SourceItems.items c.args.source.now) end.Done) (sym c.is_some.ensures ∙ c.if-is_some.true) s;
+  stands = λ t s. settled (find_of c.args.terminal.now) c.args.stage c.args.env.now c.args.self t
+      (trace (g.I.SourceItems.items c.args.source.now) end.Done) (sym c.is_some.ensures ∙ c.if-is_some.true) s;
 }
 
 pub returns : goal.returns
@@ -15,4 +16,8 @@ returns g c =
     let p = c.args.self in
     let found = c.first_decision_after.result in
     let going = sym c.is_some.ensures ∙ c.if-is_some.false in
-    record { stands = λ t s. looked_on (find_of c.args.terminal.now) c.args.stage c.args.env.now p (record { decision = found; otherwise = p.otherwise }) t (g.I.SourceItems.items c.args.source.now) s (c.first_decision_after.ensures ∙ sym (open_or p.decision _ going)) refl }
+    record {
+      stands = λ t s. looked_on (find_of c.args.terminal.now) c.args.stage c.args.env.now p
+          (record { decision = found; otherwise = p.otherwise }) t (g.I.SourceItems.items c.args.source.now) s
+          (c.first_decision_after.ensures ∙ sym (open_or p.decision _ going)) refl;
+    }

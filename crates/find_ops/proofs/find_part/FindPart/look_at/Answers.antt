@@ -20,4 +20,7 @@ returns-in-None c =
     let env = c.args.env.now in
     let x = c.args.item in
     let same = c.decision.ensures ∙ sym (ap (λ o. option_or o (decision d n env x)) c.in-None.is) in
-    record { stands = λ t s. looked d n env c.args.self (record { decision = c.decision.result; otherwise = c.args.self.otherwise }) t x s same refl }
+    record {
+      stands = λ t s. looked d n env c.args.self
+          (record { decision = c.decision.result; otherwise = c.args.self.otherwise }) t x s same refl;
+    }

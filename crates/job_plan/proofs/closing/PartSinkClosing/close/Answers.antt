@@ -15,7 +15,8 @@ returns-then-is_settled-clause-closed g c = λ xs took.
     let p = c.args.self.part in
     let later = trace [] c.args.ending in
     let is = sym c.is_settled.ensures ∙ c.if-is_settled.true in (
-      λ t h. subst (EndsFor e n env p) (append_grouped t (trace xs end.Done) later) (settled e n env p (append t (trace xs end.Done)) later is (took.3.0 t h)),
+      λ t h. subst (EndsFor e n env p) (append_grouped t (trace xs end.Done) later)
+          (settled e n env p (append t (trace xs end.Done)) later is (took.3.0 t h)),
       took.3.1,
     )
 
@@ -26,6 +27,7 @@ returns-then-is_settled-clause-enough g c = λ enough xs later took.
     let env = g.K.EndBrand.env in
     let p = c.args.self.part in
     let is = sym c.is_settled.ensures ∙ c.if-is_settled.true in (
-      λ t h. subst (EndsFor e n env p) (append_grouped t (trace xs end.Done) later) (settled e n env p (append t (trace xs end.Done)) later is (took.3.0 t h)),
+      λ t h. subst (EndsFor e n env p) (append_grouped t (trace xs end.Done) later)
+          (settled e n env p (append t (trace xs end.Done)) later is (took.3.0 t h)),
       took.3.1,
     )

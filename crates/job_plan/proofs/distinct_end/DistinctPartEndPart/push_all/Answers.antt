@@ -11,5 +11,7 @@ returns-clause-ok c =
     let l = c.args.lanes in
     let last = c.args._last in
     on_ok_map c.push_all.result
-    (λ goes. firsts_go_on c.args.self.now c.push_all.new.self (trace (laid_items l.start l.places.now l.values.now) end.Done) goes (end_in last.end.now) last.number last.env.now)
+    (λ goes. firsts_go_on c.args.self.now c.push_all.new.self
+    (trace (laid_items l.start l.places.now l.values.now) end.Done) goes (end_in last.end.now) last.number
+    last.env.now)
     c.push_all.ensures.ok

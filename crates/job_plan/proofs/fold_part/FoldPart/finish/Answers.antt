@@ -14,7 +14,8 @@ returns-in-Ok c f a counts t s =
     let xs = counted_as counts t.items in
     let fits : FitsSigned w64 c.in-Ok.number = search rules in
     let start_fits : FitsSigned w64 c.in-Some.start = search rules in
-    let given = sym (c.in-Ok.is) ∙ c.finish_from.ensures (as_counted counts t) s.stands ∙ (λ i. reduced_from (value_of (s.op i)) (to_z-of_z w64 c.in-Some.start start_fits i) (as_counted counts t)) in
+    let given = sym (c.in-Ok.is) ∙ c.finish_from.ensures (as_counted counts t) s.stands
+    ∙ (λ i. reduced_from (value_of (s.op i)) (to_z-of_z w64 c.in-Some.start start_fits i) (as_counted counts t)) in
     ap answer.Number (to_z-of_z w64 c.in-Ok.number fits)
     ∙ number_of t.ending (fold_from (value_of f) c.in-Some.start xs) c.in-Ok.number given
     ∙ ap (λ o. unless_fault t.ending (folded f o xs)) (sym c.in-Some.is ∙ s.start)
@@ -23,18 +24,21 @@ pub returns-in-Err : goal.returns-in-Err
 returns-in-Err c f a counts t s =
     let xs = counted_as counts t.items in
     let start_fits : FitsSigned w64 c.in-Some.start = search rules in
-    let given = sym (c.in-Err.is) ∙ c.finish_from.ensures (as_counted counts t) s.stands ∙ (λ i. reduced_from (value_of (s.op i)) (to_z-of_z w64 c.in-Some.start start_fits i) (as_counted counts t)) in
+    let given = sym (c.in-Err.is) ∙ c.finish_from.ensures (as_counted counts t) s.stands
+    ∙ (λ i. reduced_from (value_of (s.op i)) (to_z-of_z w64 c.in-Some.start start_fits i) (as_counted counts t)) in
     number_fault t.ending (fold_from (value_of f) c.in-Some.start xs) c.in-Err.fault (folded f a xs) given
 
 pub returns-in-Ok-finish : goal.returns-in-Ok-finish
 returns-in-Ok-finish c f a counts t s =
     let xs = counted_as counts t.items in
-    let given = sym (c.in-Ok-finish.is) ∙ c.finish.ensures (as_counted counts t) s.stands ∙ (λ i. reduced (value_of (s.op i)) (as_counted counts t)) in
+    let given = sym (c.in-Ok-finish.is) ∙ c.finish.ensures (as_counted counts t) s.stands
+    ∙ (λ i. reduced (value_of (s.op i)) (as_counted counts t)) in
     optional_of t.ending (fold_items (value_of f) xs) c.in-Ok-finish.value given
     ∙ ap (λ o. unless_fault t.ending (folded f o xs)) (sym c.in-None.is ∙ s.start)
 
 pub returns-in-Err-finish : goal.returns-in-Err-finish
 returns-in-Err-finish c f a counts t s =
     let xs = counted_as counts t.items in
-    let given = sym (c.in-Err-finish.is) ∙ c.finish.ensures (as_counted counts t) s.stands ∙ (λ i. reduced (value_of (s.op i)) (as_counted counts t)) in
+    let given = sym (c.in-Err-finish.is) ∙ c.finish.ensures (as_counted counts t) s.stands
+    ∙ (λ i. reduced (value_of (s.op i)) (as_counted counts t)) in
     optional_fault t.ending (fold_items (value_of f) xs) c.in-Err-finish.fault (folded f a xs) given

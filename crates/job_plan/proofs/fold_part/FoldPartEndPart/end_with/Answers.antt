@@ -8,4 +8,5 @@ pub returns-clause-stands : goal.returns-clause-stands
 returns-clause-stands c = λ e n env t.
     let p = c.args.self.now in
     fold_goes_on e n env p c.end_with.new.self t (trace [] c.args.ending) c.end_with.ensures.op
-    (λ s. subst (λ (w : Trace). StandsFor c.end_with.new.self (append (as_counted p.counts t) w)) (sym (end_counted p.counts c.args.ending)) (c.end_with.ensures.stands (as_counted p.counts t) s))
+    (λ s. subst (λ (w : Trace). StandsFor c.end_with.new.self (append (as_counted p.counts t) w))
+    (sym (end_counted p.counts c.args.ending)) (c.end_with.ensures.stands (as_counted p.counts t) s))

@@ -12,5 +12,8 @@ returns-clause-ok c t =
     let p = c.args.self.now in
     let l = c.args.lanes in
     let u = trace (laid_items l.start l.places.now l.values.now) end.Done in
-    fold_goes_on (end_in c.args._last.end.now) c.args._last.number c.args._last.env.now p c.merge-self.result t u c.merge-self.ensures.op
-    (λ s. c.merge-self.ensures.stands (as_counted p.counts t) (as_counted p.counts u) (c.folded-right.ensures.op ∙ c.op.ensures) s (c.folded-right.ensures.stands u.items (laid_values l.start l.places.now l.values.now)))
+    fold_goes_on (end_in c.args._last.end.now) c.args._last.number c.args._last.env.now p c.merge-self.result t u
+    c.merge-self.ensures.op
+    (λ s. c.merge-self.ensures.stands (as_counted p.counts t) (as_counted p.counts u)
+    (c.folded-right.ensures.op ∙ c.op.ensures) s
+    (c.folded-right.ensures.stands u.items (laid_values l.start l.places.now l.values.now)))

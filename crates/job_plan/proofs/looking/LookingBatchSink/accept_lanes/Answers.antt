@@ -7,7 +7,10 @@ use Rattle.job_plan.proofs.WalkLemmas.{fed_as}
 use Rattle.job_plan.proofs.looking.LookingBatchSink.accept_lanes.Goals as goal
 
 pub accept_lanes-requires : goal.accept_lanes-requires
-accept_lanes-requires g c = record { wants = inner_wants c.args.self.now.has_left (g.S.LongSink.flow c.args.self.now.inner) c.requires.wants }
+accept_lanes-requires g c = record {
+  wants =
+      inner_wants c.args.self.now.has_left (g.S.LongSink.flow c.args.self.now.inner) c.requires.wants;
+}
 
 pub returns-clause-fed : goal.returns-clause-fed
 returns-clause-fed g c = λ xs looked.
@@ -17,12 +20,20 @@ returns-clause-fed g c = λ xs looked.
     let self = c.args.self.now in
     let stays = not_left self.has_left (g.S.LongSink.flow self.inner) c.requires.wants in
     fed_as h
-    (λ (l : Looking g.row.P.Denot g.row.S.Denot g.row.W.Denot) (ys : List Item). HasLooked h g.W.Stop.decides decides from l.from l.stop.now l.has_left l.inner ys)
+    (λ (l : Looking g.row.P.Denot g.row.S.Denot g.row.W.Denot) (ys : List Item). HasLooked h g.W.Stop.decides decides
+    from l.from l.stop.now l.has_left l.inner ys)
     c.accept_lanes.new.self _
-    (λ ys took. (looked.0, looked.1, unless_left decides from (h c.accept_lanes.new.self ys) self.has_left (λ e. absurd (true≢false (sym e ∙ stays))) took))
-    xs _ c.accept_lanes.result (c.accept_lanes.ensures.fed xs (still_taken decides from (h self.inner xs) self.has_left stays looked.2))
+    (λ ys took. (
+      looked.0,
+      looked.1,
+      unless_left decides from (h c.accept_lanes.new.self ys) self.has_left
+          (λ e. absurd (true≢false (sym e ∙ stays))) took,
+    ))
+    xs _ c.accept_lanes.result (c.accept_lanes.ensures.fed xs
+    (still_taken decides from (h self.inner xs) self.has_left stays looked.2))
 
 pub returns-clause-flow : goal.returns-clause-flow
 returns-clause-flow g c =
     let self = c.args.self.now in
-    inner_flow self.has_left (g.S.LongSink.flow c.accept_lanes.new.self) (not_left self.has_left (g.S.LongSink.flow self.inner) c.requires.wants) ∙ c.accept_lanes.ensures.flow
+    inner_flow self.has_left (g.S.LongSink.flow c.accept_lanes.new.self)
+    (not_left self.has_left (g.S.LongSink.flow self.inner) c.requires.wants) ∙ c.accept_lanes.ensures.flow

@@ -11,8 +11,10 @@ returns-clause-taken g c = λ xs looked.
       looked.0,
       (λ d known. looked.1 d (c.is_past-self.ensures.still d known)),
       unless_left decides from (h self.inner xs) c.is_past-self.result
-          (λ past. as_named g.W.Stop.decides decides from self.from self.stop.now looked.0 looked.1 (c.is_past-self.ensures.past past))
-          (still_taken decides from (h self.inner xs) self.has_left (not_left self.has_left (g.S.LongSink.flow self.inner) c.requires) looked.2),
+          (λ past. as_named g.W.Stop.decides decides from self.from self.stop.now looked.0 looked.1
+          (c.is_past-self.ensures.past past))
+          (still_taken decides from (h self.inner xs) self.has_left
+          (not_left self.has_left (g.S.LongSink.flow self.inner) c.requires) looked.2),
     )
 
 pub returns-clause-wants : goal.returns-clause-wants

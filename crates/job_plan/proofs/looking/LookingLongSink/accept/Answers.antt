@@ -19,7 +19,8 @@ returns g c =
           (λ took xs looked. (
             looked.0,
             looked.1,
-            unless_left decides from (h c.accept.new.self _) self.has_left (λ e. absurd (true≢false (sym e ∙ stays))) (took xs (still_taken decides from (h self.inner xs) self.has_left stays looked.2)),
+            unless_left decides from (h c.accept.new.self _) self.has_left (λ e. absurd (true≢false (sym e ∙ stays)))
+                (took xs (still_taken decides from (h self.inner xs) self.has_left stays looked.2)),
           ))
           c.accept.ensures.ok;
       answer = if_ok_map _ _ c.accept.result (λ a e. e ∙ sym same) c.accept.ensures.answer;
@@ -27,7 +28,8 @@ returns g c =
           (λ took xs looked. (
             looked.0,
             looked.1,
-            unless_left decides from (h c.accept.new.self xs) self.has_left (λ e. absurd (true≢false (sym e ∙ stays))) (took xs (still_taken decides from (h self.inner xs) self.has_left stays looked.2)),
+            unless_left decides from (h c.accept.new.self xs) self.has_left (λ e. absurd (true≢false (sym e ∙ stays)))
+                (took xs (still_taken decides from (h self.inner xs) self.has_left stays looked.2)),
           ))
           c.accept.ensures.err;
       wants = on_err_map c.accept.result (λ e. same ∙ e) c.accept.ensures.wants;

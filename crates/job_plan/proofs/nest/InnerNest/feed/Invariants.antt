@@ -4,4 +4,9 @@ use Rattle.job_routes.specs.Legs.{number_after}
 use Rattle.job_plan.proofs.nest.InnerNest.feed.Given as goal
 
 abbrev pub ghosts-feed_link : goal.ghosts-feed_link
-ghosts-feed_link g a = record { rest = slice_of a.link.now.slice; stage = number_after a.link.now.stages; next = line_in a.next; env = a.next.env.now }
+ghosts-feed_link g a = record {
+  rest = slice_of a.link.now.slice;
+  stage = number_after a.link.now.stages;
+  next = line_in a.next;
+  env = a.next.env.now;
+}

@@ -15,8 +15,10 @@ returns-in-Some g c =
     let t = walk_in c.args.source.now in
     let link = c.in-Some.link.now in
     let before = c.in-Some.before in
-    let through : Numbers → Trace = λ e. sliced (slice_of link.slice) (number_after link.stages) env (piped before.line (linked (links_in before.links.now) e t)) in
-    let whole : linked (links_in chain.links.now) env t ≡ through before.line.env.now = c.in-Some.ensures.walk t ∙ ap through (sym c.in-Some.ensures.env) in
+    let through : Numbers → Trace = λ e. sliced (slice_of link.slice) (number_after link.stages) env
+    (piped before.line (linked (links_in before.links.now) e t)) in
+    let whole : linked (links_in chain.links.now) env t ≡ through before.line.env.now =
+    c.in-Some.ensures.walk t ∙ ap through (sym c.in-Some.ensures.env) in
     if_ok_map _ _ c.feed_link.result
     (λ made stands. subst (λ (u : Trace). g.S.Closing.stands made (piped chain.line u)) (sym whole) stands)
     c.feed_link.ensures

@@ -18,8 +18,10 @@ returns-then-push_flagged-clause-fed g c = λ xs took.
         took.0,
         took.1,
         took.2,
-        taken_on e g.K.EndBrand.stage g.K.EndBrand.env g.K.EndBrand.begun c.args.self.now.part c.push_flagged.new.self xs items took.3
-            (λ (t : Trace) h. c.push_flagged.ensures.taken c.if-push_flagged.true e g.K.EndBrand.stage g.K.EndBrand.env t items same h) c.push_flagged.ensures.kind,
+        taken_on e g.K.EndBrand.stage g.K.EndBrand.env g.K.EndBrand.begun c.args.self.now.part c.push_flagged.new.self
+            xs items took.3
+            (λ (t : Trace) h. c.push_flagged.ensures.taken c.if-push_flagged.true e g.K.EndBrand.stage g.K.EndBrand.env
+            t items same h) c.push_flagged.ensures.kind,
       ),
       refl,
     )
@@ -27,5 +29,10 @@ returns-then-push_flagged-clause-fed g c = λ xs took.
 pub returns-clause-fed : goal.returns-clause-fed
 returns-clause-fed g c = λ xs took.
     let same = c.push_flagged.ensures.other c.if-push_flagged.false in
-    c.accept_each_flagged.ensures.fed xs
-    (took.0, took.1, took.2, subst (λ (p : Part). HasTaken (end_in g.K.EndBrand.last) g.K.EndBrand.stage g.K.EndBrand.env g.K.EndBrand.begun p xs) (sym same) took.3)
+    c.accept_each_flagged.ensures.fed xs (
+      took.0,
+      took.1,
+      took.2,
+      subst (λ (p : Part). HasTaken (end_in g.K.EndBrand.last) g.K.EndBrand.stage
+          g.K.EndBrand.env g.K.EndBrand.begun p xs) (sym same) took.3,
+    )

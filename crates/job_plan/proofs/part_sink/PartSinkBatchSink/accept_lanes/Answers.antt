@@ -18,8 +18,17 @@ returns-clause-fed g c = λ xs took.
     let ends = ap end_in took.0 in
     let part = c.accept_all.new.part in
     fed_as (HasTaken (end_in close) stage env begun)
-    (λ (sink : PartSink g.row.K.Denot g.K.EndBrand) (items : List Item). (sink.last.end.now ≡ last) × (sink.last.number ≡ g.K.EndBrand.stage) × (sink.last.env.now ≡ g.K.EndBrand.env) × HasTaken f g.K.EndBrand.stage g.K.EndBrand.env begun sink.part items)
+    (λ (sink : PartSink g.row.K.Denot g.K.EndBrand) (items : List Item). (sink.last.end.now ≡ last)
+    × (sink.last.number ≡ g.K.EndBrand.stage) × (sink.last.env.now ≡ g.K.EndBrand.env)
+    × HasTaken f g.K.EndBrand.stage g.K.EndBrand.env begun sink.part items)
     part (record { part = part; last = closing; of = c.args.self.now.of; kind = c.self-1.given.0 })
-    (λ ys h. (took.0, took.1, took.2, taken_as f (end_in close) g.K.EndBrand.stage stage g.K.EndBrand.env env begun part ys (sym ends) (sym took.1) (sym took.2) h))
+    (λ ys h. (
+      took.0,
+      took.1,
+      took.2,
+      taken_as f (end_in close) g.K.EndBrand.stage stage g.K.EndBrand.env env begun part
+          ys (sym ends) (sym took.1) (sym took.2) h,
+    ))
     xs _ c.accept_all.result
-    (c.accept_all.ensures.fed begun xs (taken_as (end_in close) f stage g.K.EndBrand.stage env g.K.EndBrand.env begun c.args.self.now.part xs ends took.1 took.2 took.3))
+    (c.accept_all.ensures.fed begun xs (taken_as (end_in close) f stage g.K.EndBrand.stage env g.K.EndBrand.env begun
+    c.args.self.now.part xs ends took.1 took.2 took.3))

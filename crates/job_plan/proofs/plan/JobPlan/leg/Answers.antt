@@ -6,7 +6,8 @@ use Rattle.job_plan.proofs.plan.JobPlan.leg.Goals as goal
 pub returns-then-number-len : goal.returns-then-number-len
 returns-then-number-len c =
     let low : c.args.number < length c.args.self.now.scans.items = search rules in
-    leg_found c.args.number c.args.self.now.scans.items c.index.result.now (leg_in c.args.self.now.last) low c.index.ensures
+    leg_found c.args.number c.args.self.now.scans.items c.index.result.now (leg_in c.args.self.now.last) low
+    c.index.ensures
 
 pub returns-else-number-len : goal.returns-else-number-len
 returns-else-number-len c =

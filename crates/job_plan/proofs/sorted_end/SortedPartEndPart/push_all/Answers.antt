@@ -14,7 +14,8 @@ returns-then-keeps_places-clause-ok c =
     let last = c.args.last in
     let u = trace (laid_items l.start l.places.now l.values.now) end.Done in
     on_ok_map c.push_all.result
-    (λ goes. sort_goes_on c.args.self.now c.push_all.new.self u u goes (end_in last.end.now) (placed (end_in last.end.now) (search rules) u) last.number last.env.now)
+    (λ goes. sort_goes_on c.args.self.now c.push_all.new.self u u goes (end_in last.end.now)
+    (placed (end_in last.end.now) (search rules) u) last.number last.env.now)
     c.push_all.ensures.ok
 
 pub returns-clause-ok : goal.returns-clause-ok
@@ -23,6 +24,7 @@ returns-clause-ok c =
     let last = c.args.last in
     let u = trace (laid_items l.start l.places.now l.values.now) end.Done in
     on_ok_map c.push_all-2.result
-    (λ goes. sort_goes_on c.args.self.now c.push_all-2.new.self u (trace (at_place 0 l.values.now) end.Done) goes (end_in last.end.now)
+    (λ goes. sort_goes_on c.args.self.now c.push_all-2.new.self u (trace (at_place 0 l.values.now) end.Done) goes
+    (end_in last.end.now)
     (unplaced (end_in last.end.now) (search rules) l.start l.places.now l.values.now) last.number last.env.now)
     c.push_all-2.ensures.ok

@@ -7,7 +7,9 @@ use Rattle.job_plan.proofs.source.Source.of_sources.Goals as goal
 pub returns-in-Some : goal.returns-in-Some
 returns-in-Some c =
     let plain = c.in-Some.plain in
-    c.all.ensures ∙ short_walk (sources_of plain.sources.now) plain.few ∙ ap (λ ss. source_walk (sources_of ss)) (rw c.in-Some.is at c.of.ensures.some)
+    c.all.ensures ∙ short_walk (sources_of plain.sources.now) plain.few
+    ∙ ap (λ ss. source_walk (sources_of ss)) (rw c.in-Some.is at c.of.ensures.some)
 
 pub returns-in-None : goal.returns-in-None
-returns-in-None c = c.all-in-None.ensures ∙ long_walk (sources_of c.args.sources.now) (rw c.in-None.is at c.of.ensures.none)
+returns-in-None c = c.all-in-None.ensures
+    ∙ long_walk (sources_of c.args.sources.now) (rw c.in-None.is at c.of.ensures.none)

@@ -6,4 +6,5 @@ pub returns : goal.returns
 returns c =
     let s = c.args.self.now in
     let xs = (base_walk s.base).items in
-    window_size s.window.from s.window.to xs s.size c.within-count.result.1 s.measured s.few c.within-count.ensures.count
+    window_size s.window.from s.window.to xs s.size c.within-count.result.1 s.measured s.few
+    c.within-count.ensures.count

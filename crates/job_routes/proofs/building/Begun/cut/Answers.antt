@@ -6,5 +6,6 @@ pub returns-in-Some : goal.returns-in-Some
 returns-in-Some c =
     let e = c.select.ensures in
     ok_of_four c.select.result
-    (λ kept window walk number. window_next c.args.self.now c.select.new.self c.in-Some.window (slice_of c.args.slice) c.in-Some.ensures.unlinked kept window walk number c.in-Some.ensures.window)
+    (λ kept window walk number. window_next c.args.self.now c.select.new.self c.in-Some.window (slice_of c.args.slice)
+    c.in-Some.ensures.unlinked kept window walk number c.in-Some.ensures.window)
     e.kept e.window e.walk e.number

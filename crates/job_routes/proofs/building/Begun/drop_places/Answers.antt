@@ -18,10 +18,14 @@ returns-in-Some-clause-walk c =
     let none : length b.links.items ≡ 0 = search rules in
     let some_leg : 0 < b.scans.len = c.in-Some.ensures.variant.0 refl in
     let last : suc i ≡ length b.scans.items = omega (arith, b.scans.ok.0, some_leg) in
-    let stages : IgnorePlaces (stages_of b.stages.list.items) = rw c.deref.ensures.value at (c.ignore_places.ensures c.if-ignore_places.true) in
+    let stages : IgnorePlaces (stages_of b.stages.list.items) =
+    rw c.deref.ensures.value at (c.ignore_places.ensures c.if-ignore_places.true) in
     let legs = set b.scans.items i c.drop_places.new.self in
     by_bool c.drop_places.result
-    (λ is_sort. route_dropped b legs e (no_items b.links.items none) stages (c.ignores_places.ensures c.if-ignores_places.true)
-    (last_does (with_places false) b.scans.items i c.in-Some.leg.now c.drop_places.new.self last c.in-Some.ensures.value (c.drop_places.ensures.dropped is_sort)))
+    (λ is_sort. route_dropped b legs e (no_items b.links.items none) stages
+    (c.ignores_places.ensures c.if-ignores_places.true)
+    (last_does (with_places false) b.scans.items i c.in-Some.leg.now c.drop_places.new.self last c.in-Some.ensures.value
+    (c.drop_places.ensures.dropped is_sort)))
     (λ no_sort. route_kept b legs e
-    (last_does (λ (t : Trace). t) b.scans.items i c.in-Some.leg.now c.drop_places.new.self last c.in-Some.ensures.value (c.drop_places.ensures.same no_sort)))
+    (last_does (λ (t : Trace). t) b.scans.items i c.in-Some.leg.now c.drop_places.new.self last c.in-Some.ensures.value
+    (c.drop_places.ensures.same no_sort)))

@@ -23,7 +23,8 @@ returns c =
           let u = windowed b.window.from b.window.to (scanned (legs_in b.scans.items) env (source_walk ss)) in
           (λ i. pipe s.first (stages_of (none i)) env (linked (links_in new) env u))
           ∙ last_linked new b.links.items _ env u c.in_ok-push.ensures.items
-          ∙ (λ i. sliced (slice_of c.args.slice) (number_after (r.value i)) env (walk_through (r.value i) env (linked (links_in b.links.items) env u)));
+          ∙ (λ i. sliced (slice_of c.args.slice) (number_after (r.value i)) env
+          (walk_through (r.value i) env (linked (links_in b.links.items) env u)));
       number = omega (arith, k, first, c.next-next.ensures);
       few = omega (arith, l);
     }

@@ -1,7 +1,8 @@
 use Rattle.std.proofs.Common.{length, ap, ◌∙◌, arith}
 use Rattle.trace.specs.Stages.{pipe, stages_of}
 use Rattle.job_meaning.specs.Walks.{source_walk}
-use Rattle.job_routes.specs.Legs.{end_in, legs_in, links_in, number_after, walk_through, ended, given_walk, linked, scanned, windowed}
+use Rattle.job_routes.specs.Legs.{end_in, legs_in, links_in, number_after, walk_through, ended, given_walk, linked}
+use Rattle.job_routes.specs.Legs.{scanned, windowed}
 use Rattle.job_routes.proofs.LinkLemmas.{last_scanned}
 use Rattle.job_routes.proofs.WindowLemmas.{all_positions}
 use Rattle.job_routes.proofs.building.Begun.scan.Goals as goal
@@ -17,10 +18,12 @@ returns c =
     record {
       walk = λ env ss.
           let u = scanned (legs_in new) env (source_walk ss) in
-          (λ i. pipe s.stages.first (stages_of (e.none.1 i)) env (linked (links_in (e.none.0 i)) env (windowed (e.none.3 i) (e.none.4 i) u)))
+          (λ i. pipe s.stages.first (stages_of (e.none.1 i)) env
+          (linked (links_in (e.none.0 i)) env (windowed (e.none.3 i) (e.none.4 i) u)))
           ∙ all_positions u
           ∙ last_scanned new s.scans.items taken.result env (source_walk ss) c.in_ok-push.ensures.items
-          ∙ (λ i. given_walk (ended (end_in (e.leg.3 i)) (number_after (e.leg.2 i)) env (walk_through (e.leg.2 i) env (linked (links_in (e.leg.1 i).items) env
+          ∙ (λ i. given_walk (ended (end_in (e.leg.3 i)) (number_after (e.leg.2 i)) env
+          (walk_through (e.leg.2 i) env (linked (links_in (e.leg.1 i).items) env
           (windowed (e.leg.0 i).from (e.leg.0 i).to (scanned (legs_in (e.kept i).items) env (source_walk ss)))))));
       number = omega (arith, stages, e.none.2);
       few = omega (arith, links);

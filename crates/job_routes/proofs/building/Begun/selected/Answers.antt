@@ -20,8 +20,10 @@ returns-in-Limit-clause-window c =
     (λ w h m env ss.
     let t : Trace = scanned (legs_in b.scans.items) env (source_walk ss) in
     let clean : IsClean t = c.is_clean.ensures c.if-is_clean.true env ss in
-    limit_selects b.stages.first gs c.in-Limit.count maps (windowed b.window.from b.window.to t) (windowed w.from w.to t) (limits b.window.from b.window.to c.in-Limit.count w.from w.to t some clean h) m env
-    ∙ sym (ap (λ d. sliced (slice_of d) m env (pipe b.stages.first gs env (windowed b.window.from b.window.to t))) c.in-Limit.is)) c.limited.ensures.some
+    limit_selects b.stages.first gs c.in-Limit.count maps (windowed b.window.from b.window.to t)
+    (windowed w.from w.to t) (limits b.window.from b.window.to c.in-Limit.count w.from w.to t some clean h) m env
+    ∙ sym (ap (λ d. sliced (slice_of d) m env (pipe b.stages.first gs env (windowed b.window.from b.window.to t)))
+    c.in-Limit.is)) c.limited.ensures.some
 
 pub returns-in-Skip-clause-window : goal.returns-in-Skip-clause-window
 returns-in-Skip-clause-window c =
@@ -32,5 +34,7 @@ returns-in-Skip-clause-window c =
     some_map c.skipped.result
     (λ w h m env ss.
     let t : Trace = scanned (legs_in b.scans.items) env (source_walk ss) in
-    skip_selects b.stages.first gs c.in-Skip.count maps calm (windowed b.window.from b.window.to t) (windowed w.from w.to t) (skips b.window.from b.window.to c.in-Skip.count w.from w.to t h) m env
-    ∙ sym (ap (λ d. sliced (slice_of d) m env (pipe b.stages.first gs env (windowed b.window.from b.window.to t))) c.in-Skip.is)) c.skipped.ensures.some
+    skip_selects b.stages.first gs c.in-Skip.count maps calm (windowed b.window.from b.window.to t)
+    (windowed w.from w.to t) (skips b.window.from b.window.to c.in-Skip.count w.from w.to t h) m env
+    ∙ sym (ap (λ d. sliced (slice_of d) m env (pipe b.stages.first gs env (windowed b.window.from b.window.to t)))
+    c.in-Skip.is)) c.skipped.ensures.some

@@ -7,4 +7,5 @@ use Rattle.job_routes.proofs.ends.SegmentEnd.drop_places.Goals as goal
 
 pub returns-in-Sorted-clause-dropped : goal.returns-in-Sorted-clause-dropped
 returns-in-Sorted-clause-dropped c = λ is_sort n env t.
-    places_dropped c.in-Sorted.most c.in-Sorted.places t ∙ sym (ap (λ (s : SegmentEnd). with_places false (given_walk (ended (end_in s) n env t))) c.in-Sorted.is)
+    places_dropped c.in-Sorted.most c.in-Sorted.places t
+    ∙ sym (ap (λ (s : SegmentEnd). with_places false (given_walk (ended (end_in s) n env t))) c.in-Sorted.is)

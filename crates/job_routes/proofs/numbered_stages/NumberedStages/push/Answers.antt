@@ -11,7 +11,9 @@ invariant_of-self c =
     record { numbered = omega (arith, few, same, c.requires.few) }
 
 pub returns-clause-walk : goal.returns-clause-walk
-returns-clause-walk c = λ env t. one_more c.args.self.now.first c.args.self.now.list.items c.push.new.self.items c.args.stage c.in_ok-push.ensures.items env t
+returns-clause-walk c = λ env t. one_more c.args.self.now.first c.args.self.now.list.items c.push.new.self.items
+    c.args.stage c.in_ok-push.ensures.items env t
 
 pub returns-clause-number : goal.returns-clause-number
-returns-clause-number c = let l = one_longer c.args.self.now.list.items c.push.new.self.items c.args.stage c.in_ok-push.ensures.items in omega (arith, l)
+returns-clause-number c = let l = one_longer c.args.self.now.list.items c.push.new.self.items c.args.stage
+    c.in_ok-push.ensures.items in omega (arith, l)

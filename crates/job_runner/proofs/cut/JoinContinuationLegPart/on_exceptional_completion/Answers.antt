@@ -8,4 +8,7 @@ returns g c =
     let j = c.args.self in
     let f = c.in-Fault.field-0 in
     let top : j.parent ≡ None = search rules in
-    record { goes = caught_goes run (λ x. x.found) j.cut j.parent _ refl top (f, leftmost_fault run (λ x. x.found) j.cut c.args.failure f c.in-Fault.is c.requires.leftmost) }
+    record {
+      goes = caught_goes run (λ x. x.found) j.cut j.parent _ refl top
+          (f, leftmost_fault run (λ x. x.found) j.cut c.args.failure f c.in-Fault.is c.requires.leftmost);
+    }

@@ -13,4 +13,5 @@ abbrev pub decreases-take : goal.decreases-take
 decreases-take g l = 3 * l.depth + 2
 
 abbrev pub invariant-end_job-loop-at : goal.invariant-end_job-loop-at
-invariant-end_job-loop-at g l = HasKept g.R.RunBrand.table g.R.RunBrand.jobs g.R.RunBrand.start g.R.RunBrand.keeps (nodes_in (drop l.at l.waiting) ++ 0 ∷ []) l.seat
+invariant-end_job-loop-at g l = HasKept g.R.RunBrand.table g.R.RunBrand.jobs g.R.RunBrand.start g.R.RunBrand.keeps
+    (nodes_in (drop l.at l.waiting) ++ 0 ∷ []) l.seat

@@ -15,12 +15,16 @@ invariant_of-unopened g c =
     let many = nodes.count in
     let all : length ss ≡ n = omega arith in
     let s = c.split-seat.ensures in
-    let known = starts_known g.R.RunBrand.jobs g.R.RunBrand.start g.R.RunBrand.keeps 0 ss [] (view_of c.args.seat) nodes.count nodes.started c.requires.started in
-    let below = all_below g.R.RunBrand.start ss n all (λ k low. (nodes.started k).0 ∙ ap (node_at ss) (let e : g.R.RunBrand.jobs - 1 - k ≡ n - 1 - k = omega arith in e)) in
+    let known = starts_known g.R.RunBrand.jobs g.R.RunBrand.start g.R.RunBrand.keeps 0 ss [] (view_of c.args.seat)
+    nodes.count nodes.started c.requires.started in
+    let below = all_below g.R.RunBrand.start ss n all
+    (λ k low. (nodes.started k).0 ∙ ap (node_at ss)
+    (let e : g.R.RunBrand.jobs - 1 - k ≡ n - 1 - k = omega arith in e)) in
     let rest = credit_rest _ c.args.seat c.split-seat.result.0 known c.requires.started.no_side s.parts.0 in
     record {
       table = s.seat.0.0 ∙ c.requires.table;
-      held = λ i. subst (λ l. count i l ≤ count i (view_of c.split-seat.result.0).held) (sym below) (let a = c.requires.started.held i in let e = rest.0 i in omega arith);
+      held = λ i. subst (λ l. count i l ≤ count i (view_of c.split-seat.result.0).held) (sym below)
+          (let a = c.requires.started.held i in let e = rest.0 i in omega arith);
       no_side = rest.1;
       knows = rest.2;
       few = omega arith;

@@ -10,7 +10,8 @@ invariant_of-result g c =
     let j = c.join-seat.ensures in
     let none : length (view_of spare.seat).places ≡ 0 = spare.unplaced in
     record {
-      has = credit_joined _ (g.R.RunBrand.keeps b.job) b.seat spare.seat c.split-rest.result.1 c.join-seat.result (j.seat.0 ∙ b.has.table) none c.split-rest.ensures.parts.1 j.both b.has;
+      has = credit_joined _ (g.R.RunBrand.keeps b.job) b.seat spare.seat c.split-rest.result.1 c.join-seat.result
+          (j.seat.0 ∙ b.has.table) none c.split-rest.ensures.parts.1 j.both b.has;
       known = b.known;
     }
 

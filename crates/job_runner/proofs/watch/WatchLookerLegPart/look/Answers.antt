@@ -5,7 +5,8 @@ use Rattle.job_runner.proofs.CaughtLemmas.{handed_part, moved, side_handed}
 use Rattle.job_runner.proofs.watch.WatchLookerLegPart.look.Goals as goal
 
 -- a leg of a job of the run, by other names for both
-known_as : (jobs : ℕ) (last : ℕ → ℕ) {j j' k k' : ℕ} → j' ≡ j → k' ≡ k → j < jobs → k ≤ last j → (j' < jobs) × (k' ≤ last j')
+known_as : (jobs : ℕ) (last : ℕ → ℕ) {j j' k k' : ℕ} → j' ≡ j → k' ≡ k → j < jobs → k ≤ last j
+    → (j' < jobs) × (k' ≤ last j')
 known_as jobs last {j} {j'} {k} {k'} ej ek low within =
     (omega arith, subst (λ z. k' ≤ last z) (sym ej) (let fits : k' ≤ last j = omega arith in fits))
 
@@ -25,5 +26,8 @@ settle-requires-clause-part g c =
     let run = g.S.JobLegs.run in
     let piece = c.side_at.ensures in
     let side : at.side ≢ Whole = search rules in
-    moved (λ j k a b. run.stands_for j k a b c.in-Part.part) (sym piece.of.0) (sym piece.of.1) (sym piece.positions.0) (sym piece.positions.1)
-    (handed_part run (λ x. x.found) at.tag.job at.tag.leg (begins at.tag at.side) (ends_at at.tag at.side) c.args.value.now _ _ c.in-Ok.is c.in-Part.is (side_handed run (λ x. x.found) at.tag at.side c.args.value.now side c.requires.fits))
+    moved (λ j k a b. run.stands_for j k a b c.in-Part.part) (sym piece.of.0) (sym piece.of.1) (sym piece.positions.0)
+    (sym piece.positions.1)
+    (handed_part run (λ x. x.found) at.tag.job at.tag.leg (begins at.tag at.side) (ends_at at.tag at.side)
+    c.args.value.now _ _ c.in-Ok.is c.in-Part.is
+    (side_handed run (λ x. x.found) at.tag at.side c.args.value.now side c.requires.fits))

@@ -11,7 +11,8 @@ returns-in-Some g c =
     let taken = c.requires.given in
     let found : Result Answer (Unit {0}) = Ok c.in-Some.answer in
     let is : c.in-Some.answer ≡ answer_of plans c.args.job =
-    answered plans c.args.job (plan_in c.job-plan.result.now) c.job-plan.ensures c.args.input.given.now c.args.part found c.requires.job taken.0 taken.1 c.requires.part
+    answered plans c.args.job (plan_in c.job-plan.result.now) c.job-plan.ensures c.args.input.given.now c.args.part
+    found c.requires.job taken.0 taken.1 c.requires.part
     (rw c.in-Some.is at c.in_ok-answer.ensures.some) in
     subst (λ (a : Answer). IfOk c.for_later_jobs.result (λ (kept : Answer). kept ≡ a)) is c.for_later_jobs.ensures
 
@@ -24,9 +25,11 @@ returns g c =
     let plan = plan_in c.job-plan.result.now in
     let again = c.in_ok-again.again in
     let last = c.last_leg.result in
-    let here : last ≡ last_leg chain.legs = c.last_leg.ensures ∙ ap last_leg (sym (legs_there plans job plan c.job-plan.ensures)) in
+    let here : last ≡ last_leg chain.legs =
+    c.last_leg.ensures ∙ ap last_leg (sym (legs_there plans job plan c.job-plan.ensures)) in
     let size : c.args.input.size ≡ size_at chain last = c.requires.size ∙ ap (size_at chain) (sym here) in
     let stands = subst (λ (n : ℕ). PartStands chain last 0 n again) size c.in_ok-again.ensures.stands in
     let found : Result Answer (Unit {0}) = Ok c.in-Some-2.answer in
     answered plans job plan c.job-plan.ensures c.args.input.given.now again found c.requires.job taken.0 taken.1
-    (subst (λ (k : ℕ). PartStands chain k 0 (size_at chain k) again) here stands) (rw c.in-Some-2.is at c.in_ok-answer-2.ensures.some)
+    (subst (λ (k : ℕ). PartStands chain k 0 (size_at chain k) again) here stands)
+    (rw c.in-Some-2.is at c.in_ok-answer-2.ensures.some)

@@ -11,12 +11,16 @@ pub returns : goal.returns
 returns g c =
     let plans = plans_in g.P.PlanBrand.jobs in
     let h = c.requires.caught in
-    let gives : (plan_at plans c.args.job).fallback ≡ Some (fallback_in c.in-Some.instead) = sym (ap (λ (q : AbstractPlan). q.fallback) c.job.ensures) ∙ ap (λ (o : Option Fallback). option_map fallback_in o) c.in-Some.is in
+    let gives : (plan_at plans c.args.job).fallback ≡ Some (fallback_in c.in-Some.instead) =
+    sym (ap (λ (q : AbstractPlan). q.fallback) c.job.ensures)
+    ∙ ap (λ (o : Option Fallback). option_map fallback_in o) c.in-Some.is in
     c.answer.ensures ∙ caught_answer plans c.args.job h.0 h.1 (fallback_in c.in-Some.instead) gives h.2
 
 pub unreachable-requires : goal.unreachable-requires
 unreachable-requires g c =
     let plans = plans_in g.P.PlanBrand.jobs in
     let h = c.requires.caught in
-    let none : (plan_at plans c.args.job).fallback ≡ None = sym (ap (λ (q : AbstractPlan). q.fallback) c.job.ensures) ∙ ap (λ (o : Option Fallback). option_map fallback_in o) c.in-None.is in
+    let none : (plan_at plans c.args.job).fallback ≡ None =
+    sym (ap (λ (q : AbstractPlan). q.fallback) c.job.ensures)
+    ∙ ap (λ (o : Option Fallback). option_map fallback_in o) c.in-None.is in
     nothing_caught plans c.args.job h.0 h.1 none h.2

@@ -10,4 +10,5 @@ pub returns-in-Err : goal.returns-in-Err
 returns-in-Err g c =
     let plans = plans_in g.P.PlanBrand.jobs in
     known_of plans c.args.job (plan_in c.job-plan.result.now) c.job-plan.ensures c.in-Err.unusable c.requires.job
-    (ap (λ (ns : List Named). first_unusable (jobs_at (answers_before plans c.args.job) ns)) (sym c.deref.ensures.value) ∙ rw c.in-Err.is at c.in_ok-given.ensures.unusable)
+    (ap (λ (ns : List Named). first_unusable (jobs_at (answers_before plans c.args.job) ns)) (sym c.deref.ensures.value)
+    ∙ rw c.in-Err.is at c.in_ok-given.ensures.unusable)

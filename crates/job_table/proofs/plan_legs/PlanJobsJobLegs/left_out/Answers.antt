@@ -13,6 +13,9 @@ returns g c =
     let piece = c.args.piece in
     let chain = chain_at (plans_in g.P.PlanBrand.jobs) piece.job in
     let leg = c.leg.ensures ∙ ap (λ (p : AbstractPlan). leg_at piece.leg p.legs) c.job.ensures in
-    left_stands chain piece.leg piece.from piece.to c.unwalked.result c.requires.decided.0 c.requires.decided.1 c.requires.decided.2
-    (subst (λ (e : Numbers). StandsFor (leg_at piece.leg chain.legs).last e c.unwalked.result nothing) c.requires.given.1
-    (subst (λ (l : AbstractLeg). StandsFor l.last c.args.given.now c.unwalked.result nothing) leg c.unwalked.ensures.stands))
+    left_stands chain piece.leg piece.from piece.to c.unwalked.result c.requires.decided.0 c.requires.decided.1
+    c.requires.decided.2
+    (subst (λ (e : Numbers). StandsFor (leg_at piece.leg chain.legs).last e c.unwalked.result nothing)
+    c.requires.given.1
+    (subst (λ (l : AbstractLeg). StandsFor l.last c.args.given.now c.unwalked.result nothing) leg
+    c.unwalked.ensures.stands))

@@ -16,4 +16,5 @@ pub returns : goal.returns
 returns g c =
     let js = c.args.self.now.plan.now.jobs.items in
     let same : js ≡ g.P.PlanBrand.jobs = c.args.self.now.planned in
-    plan_got js c.args.job c.index.result.now (job_within js g.P.PlanBrand.jobs c.args.job same c.requires) c.index.ensures ∙ ap (λ (xs : List JobPlan). plan_at (plans_in xs) c.args.job) same
+    plan_got js c.args.job c.index.result.now (job_within js g.P.PlanBrand.jobs c.args.job same c.requires)
+    c.index.ensures ∙ ap (λ (xs : List JobPlan). plan_at (plans_in xs) c.args.job) same

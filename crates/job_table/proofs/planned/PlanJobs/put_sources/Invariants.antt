@@ -8,5 +8,8 @@ use Rattle.job_table.proofs.planned.PlanJobs.put_sources.Given as goal
 -- the sources so far, and those that are left
 abbrev pub invariant-loop-source : goal.invariant-loop-source
 invariant-loop-source g l =
-    sources_of l.sources.items ++ all_put_in (jobs_at (answers_before (plans_in g.P.PlanBrand.jobs) l.job) l.plan.named.items) (sources_of (drop l.source-index l.source-items))
-    ≡ all_put_in (jobs_at (answers_before (plans_in g.P.PlanBrand.jobs) l.job) l.plan.named.items) (sources_of l.plan.sources.items)
+    sources_of l.sources.items ++ all_put_in
+    (jobs_at (answers_before (plans_in g.P.PlanBrand.jobs) l.job) l.plan.named.items)
+    (sources_of (drop l.source-index l.source-items))
+    ≡ all_put_in (jobs_at (answers_before (plans_in g.P.PlanBrand.jobs) l.job) l.plan.named.items)
+    (sources_of l.plan.sources.items)

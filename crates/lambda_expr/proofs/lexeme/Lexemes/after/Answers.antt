@@ -9,7 +9,8 @@ overflow_add-result c =
     omega (arith, length-part c.self.inside c.args.self.now c.self.invariant c.self.view_is)
 
 pub returns-clause-lexemes : goal.returns-clause-lexemes
-returns-clause-lexemes c = rest_part c.self.inside c.args.self.now c.args.count c.self.invariant c.self.view_is c.requires
+returns-clause-lexemes c = rest_part c.self.inside c.args.self.now c.args.count c.self.invariant c.self.view_is
+    c.requires
 
 pub returns-clause-len : goal.returns-clause-len
 returns-clause-len c =

@@ -8,5 +8,7 @@ use Rattle.pending_count.proofs.counts.Counts.split.Goals as goal
 pub returns-clause-split : goal.returns-clause-split
 returns-clause-split g c =
     let t = c.split_by.ensures.parts in
-    subst (λ (z : View g.row.K-Tag.Denot × View g.row.K-Tag.Denot). IsSplit (Content g.row.V.Denot g.row.K.Denot) c.args.self.now.nodes c.args.node c.args.k (view_of c.args.seat) z.0 z.1) (λ i. (sym t.0 i, sym t.1 i))
-    (is_split _ c.args.self.now.nodes c.args.node c.args.k c.args.credit [] (view_of c.args.seat) c.requires.have c.requires.credit c.requires.end)
+    subst (λ (z : View g.row.K-Tag.Denot × View g.row.K-Tag.Denot). IsSplit (Content g.row.V.Denot g.row.K.Denot)
+    c.args.self.now.nodes c.args.node c.args.k (view_of c.args.seat) z.0 z.1) (λ i. (sym t.0 i, sym t.1 i))
+    (is_split _ c.args.self.now.nodes c.args.node c.args.k c.args.credit [] (view_of c.args.seat) c.requires.have
+    c.requires.credit c.requires.end)

@@ -17,6 +17,9 @@ returns c =
     let gs = stages_of c.args.self.now.stages.now in
     let xs = batch_items c.args.lent.now in
     let taken = λ (b : List Item) (ys : List Item). length ys ≤ 1024 → b ≡ ys in
-    all_taken taken (left_by gs xs) c.feed_at_once.new.sink c.feed_at_once.result c.feed_at_once.ensures.flow c.feed_at_once.ensures.refused
-    (subst (λ (t : Trace). IsFed taken none t c.feed_at_once.result c.feed_at_once.new.sink) ((c.args.self.now.cheap numbers).0 0 c.empty-env.result tt xs end.Done) (c.feed_at_once.ensures.fed none (λ few. c.clear.ensures)))
+    all_taken taken (left_by gs xs) c.feed_at_once.new.sink c.feed_at_once.result c.feed_at_once.ensures.flow
+    c.feed_at_once.ensures.refused
+    (subst (λ (t : Trace). IsFed taken none t c.feed_at_once.result c.feed_at_once.new.sink)
+    ((c.args.self.now.cheap numbers).0 0 c.empty-env.result tt xs end.Done)
+    (c.feed_at_once.ensures.fed none (λ few. c.clear.ensures)))
     (let few = (c.args.self.now.cheap numbers).1 xs in omega (arith, few, c.requires))

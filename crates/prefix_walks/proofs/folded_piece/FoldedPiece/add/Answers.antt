@@ -10,9 +10,12 @@ pub returns-clause-folded : goal.returns-clause-folded
 returns-clause-folded g c =
     let xs = g.I.SourceItems.items c.args.source.now in
     let added : c.add.result ≡ Ok true = search rules in
-    let old = subst (λ (ys : List Item). FoldStands c.args.self.now.fold (trace ys end.Done)) (ap items_in c.in-Stored.is) c.requires.folded.stands in
+    let old = subst (λ (ys : List Item). FoldStands c.args.self.now.fold (trace ys end.Done))
+    (ap items_in c.in-Stored.is) c.requires.folded.stands in
     record {
       op = c.merge-self.ensures.op ∙ c.requires.folded.op;
-      stands = subst (λ (ys : List Item). FoldStands c.merge-self.result (trace ys end.Done)) (sym (c.add.ensures.added added))
-          (c.merge-self.ensures.stands (trace c.in-Stored.stored end.Done) (trace xs end.Done) (c.folded.ensures.op ∙ sym c.requires.folded.op) old (c.folded.ensures.stands xs c.requires.at.values));
+      stands = subst (λ (ys : List Item). FoldStands c.merge-self.result (trace ys end.Done))
+          (sym (c.add.ensures.added added))
+          (c.merge-self.ensures.stands (trace c.in-Stored.stored end.Done) (trace xs end.Done)
+          (c.folded.ensures.op ∙ sym c.requires.folded.op) old (c.folded.ensures.stands xs c.requires.at.values));
     }

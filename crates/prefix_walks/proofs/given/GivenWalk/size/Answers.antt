@@ -9,5 +9,6 @@ use Rattle.prefix_walks.proofs.given.GivenWalk.size.Goals as goal
 pub returns-in-Sorted : goal.returns-in-Sorted
 returns-in-Sorted c =
     let runs = c.in-Sorted.runs in
-    sym (size_of_first runs.count (joined runs.runs.items) runs.within) ∙ ap (λ (k : Kept). length (kept_walk k).items) (sym c.in-Sorted.is)
+    sym (size_of_first runs.count (joined runs.runs.items) runs.within)
+    ∙ ap (λ (k : Kept). length (kept_walk k).items) (sym c.in-Sorted.is)
     ∙ ap (λ (t : Trace). length t.items) c.self.view_is

@@ -9,8 +9,10 @@ returns-then-self-lt-MOST_ITEMS c = λ few.
     let o = c.args.item.origin in
     let v = to_z w64 (of_z w64 c.args.item.value) in
     let fits : v ≡ c.args.item.value = search rules in
-    one_added b.start b.places b.values b.count c.self.invariant c.list_counted.new.places (record { origin = o; value = v }) c.list_counted.ensures c.if-self-lt-MOST_ITEMS.true
-    ∙ ap (λ (xs : List Item). xs ++ record { origin = o; value = v } ∷ []) c.self.view_is ∙ ap (λ (u : ℤ). c.args.self.now ++ record { origin = o; value = u } ∷ []) fits
+    one_added b.start b.places b.values b.count c.self.invariant c.list_counted.new.places
+    (record { origin = o; value = v }) c.list_counted.ensures c.if-self-lt-MOST_ITEMS.true
+    ∙ ap (λ (xs : List Item). xs ++ record { origin = o; value = v } ∷ []) c.self.view_is
+    ∙ ap (λ (u : ℤ). c.args.self.now ++ record { origin = o; value = u } ∷ []) fits
 
 pub returns-else-self-lt-MOST_ITEMS : goal.returns-else-self-lt-MOST_ITEMS
 returns-else-self-lt-MOST_ITEMS c = λ few.

@@ -16,5 +16,6 @@ loop-position-preserved c = λ few.
     let count = ap length old in
     let space : length c.loop-position.self < 1024 = omega (arith, within, size, few, count) in
     let more : take (i + 1) xs ≡ take i xs ++ x ∷ [] =
-    take_more xs i x within ∙ ap (λ (z : Item). take i xs ++ z ∷ []) (get_or_from_slice_get xs i x x c.item_at.ensures) in
+    take_more xs i x within ∙ ap (λ (z : Item). take i xs ++ z ∷ [])
+    (get_or_from_slice_get xs i x x c.item_at.ensures) in
     c.add.ensures space ∙ ap (λ (ys : List Item). ys ++ x ∷ []) old ∙ sym more

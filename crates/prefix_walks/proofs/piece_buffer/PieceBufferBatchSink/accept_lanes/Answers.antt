@@ -10,7 +10,8 @@ returns-then-self-eq0-clause-fed c = λ xs took.
     let l = c.args.lanes in
     let none = ap length (sym c.self.view_is) ∙ length_front b.start b.places b.values b.count c.self.invariant in
     let size = length_laid l.start l.places.now l.values.now in (
-      λ few. first_taken xs (laid_items l.start l.places.now l.values.now) c.args.self.now c.hold.new.self took (omega (arith, none, c.if-self-eq0.true))
+      λ few. first_taken xs (laid_items l.start l.places.now l.values.now) c.args.self.now c.hold.new.self took
+          (omega (arith, none, c.if-self-eq0.true))
           (λ h. c.hold.ensures (omega (arith, h, size)) ∙ laid_at l.start l.places.now l.values.now l.listed) few,
       refl,
     )

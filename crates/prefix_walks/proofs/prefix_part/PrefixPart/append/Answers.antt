@@ -10,4 +10,5 @@ invariant_of-self-2 c =
     let same : right.prefix.op ≡ left.prefix.op = search rules in
     let both : c.append.new.self.items ≡ left.pieces.items ++ right.pieces.items = search rules in
     subst (λ ps. All (IsFolded left.prefix.op) ps) (sym both)
-    (All-append (IsFolded left.prefix.op) left.pieces.items right.pieces.items c.self.invariant (subst (λ o. All (IsFolded o) right.pieces.items) same c.right.invariant))
+    (All-append (IsFolded left.prefix.op) left.pieces.items right.pieces.items c.self.invariant
+    (subst (λ o. All (IsFolded o) right.pieces.items) same c.right.invariant))

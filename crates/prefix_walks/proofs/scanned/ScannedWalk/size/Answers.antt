@@ -8,4 +8,5 @@ use Rattle.prefix_walks.proofs.scanned.ScannedWalk.size.Goals as goal
 pub returns : goal.returns
 returns c =
     let walk = c.self.inside in
-    c.self.invariant.size_is ∙ sym (length-scan_at (value_of walk.prefix.op) walk.prefix.range 0 None (all_items walk.pieces.items)) ∙ ap (λ (t : Trace). length t.items) c.self.view_is
+    c.self.invariant.size_is ∙ sym (length-scan_at (value_of walk.prefix.op) walk.prefix.range 0 None
+    (all_items walk.pieces.items)) ∙ ap (λ (t : Trace). length t.items) c.self.view_is

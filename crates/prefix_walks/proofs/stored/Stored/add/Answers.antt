@@ -11,5 +11,6 @@ returns-clause-added g c = λ added.
     let count : c.len-count.result ≡ length b.values.items = search rules in
     let went : c.goes_on.result ≡ true = search rules in
     (λ j. items_at b.start (c.in_ok-extend.ensures.places j) (c.in_ok-extend.ensures.values j))
-    ∙ both_own b.start c.args.start b.places.items b.values.items xs c.args.values.now c.self.invariant.0 c.requires.at (λ p e. c.goes_on.ensures.counted p went e ∙ ap (λ n. Some (p + n)) count) (c.goes_on.ensures.listed went)
+    ∙ both_own b.start c.args.start b.places.items b.values.items xs c.args.values.now c.self.invariant.0 c.requires.at
+    (λ p e. c.goes_on.ensures.counted p went e ∙ ap (λ n. Some (p + n)) count) (c.goes_on.ensures.listed went)
     ∙ ap (λ (ys : List Item). ys ++ xs) c.self.view_is

@@ -17,7 +17,9 @@ returns-in-Within-right c = record {
       let done : a.ending ≡ end.Done = sym l.1 ∙ the_done c.in-Within.end c.in_default-end.not-Fault in
       let s : AbstractReach = reach_beside (reach_in c.in-Within.left) (reach_in c.in-Within-right.reach) in
       c.of_reach.ensures (append a b)
-      (subst (λ (x : AbstractReach). IsReach c.beside.result x) (reach_after a b (reach_in c.in-Within.left) (reach_in c.in-Within-right.reach) done l.0 r.0) c.beside.ensures)
+      (subst (λ (x : AbstractReach). IsReach c.beside.result x)
+      (reach_after a b (reach_in c.in-Within.left) (reach_in c.in-Within-right.reach) done l.0 r.0)
+      c.beside.ensures)
       (r.1 ∙ end_after a b done);
 }
 

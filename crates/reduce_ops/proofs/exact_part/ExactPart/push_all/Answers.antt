@@ -10,8 +10,10 @@ use Rattle.reduce_ops.proofs.exact_part.ExactPart.push_all.Goals as goal
 pub returns-in_default : goal.returns-in_default
 returns-in_default c = record {
   stands = λ t xs e p.
-      let q : IsPiece piece.Over t = subst (λ (x : ExactPart). IsPiece x t) (over_only c.args.self.now c.in_default.not-Within) p in
-      subst (λ (x : ExactPart). IsPiece x (append t (trace xs end.Done))) (sym (over_only c.args.self.now c.in_default.not-Within)) (over_stays t (trace xs end.Done) q);
+      let q : IsPiece piece.Over t = subst (λ (x : ExactPart). IsPiece x t)
+      (over_only c.args.self.now c.in_default.not-Within) p in
+      subst (λ (x : ExactPart). IsPiece x (append t (trace xs end.Done)))
+      (sym (over_only c.args.self.now c.in_default.not-Within)) (over_stays t (trace xs end.Done) q);
 }
 
 pub returns : goal.returns
@@ -20,6 +22,8 @@ returns c = record {
       let l = subst (λ (x : ExactPart). IsPiece x t) c.in-Within.is p in
       let done : t.ending ≡ end.Done = sym l.1 ∙ the_done c.in-Within.end c.in_default-end.not-Fault in
       c.of_reach.ensures (append t (trace xs end.Done))
-      (subst (λ (r : AbstractReach). IsReach c.reach_with.result r) (reach_after t (trace xs end.Done) (reach_in c.in-Within.reach) (reach_of c.args.values.now) done l.0 (sym (ap reach_of e))) c.reach_with.ensures)
+      (subst (λ (r : AbstractReach). IsReach c.reach_with.result r)
+      (reach_after t (trace xs end.Done) (reach_in c.in-Within.reach) (reach_of c.args.values.now) done l.0
+      (sym (ap reach_of e))) c.reach_with.ensures)
       (end_after t (trace xs end.Done) done);
 }

@@ -38,4 +38,5 @@ returns c =
     let r : c.args.self.rise < 2 ^ 64 = search rules in
     let q : AbstractReach = reach_on (reach_in c.args.self) c.args.value in
     subst (λ (s : AbstractReach). IsReach c.of_sums.result s)
-    (same_reach _ q.total _ q.least _ q.greatest (omega (arith, ints, clamps)) (omega (arith, ints, clamps)) (omega (arith, ints, clamps))) c.of_sums.ensures
+    (same_reach _ q.total _ q.least _ q.greatest (omega (arith, ints, clamps)) (omega (arith, ints, clamps))
+    (omega (arith, ints, clamps))) c.of_sums.ensures

@@ -1,6 +1,8 @@
 use Rattle.std.proofs.Common.{rules, arith, ◌<◌, ◌^◌}
 use Rattle.std.proofs.lemmas.Int.{ints}
-use Rattle.reduce_ops.proofs.reach.Reach.sum_from.Goals.{then-least-ltminus9223372036854775808-via-then-least-ltminus9223372036854775808, then-least-ltminus9223372036854775808-via-else-least-ltminus9223372036854775808+then-greatest-gt9223372036854775807, then-least-ltminus9223372036854775808-via-else-least-ltminus9223372036854775808+else-greatest-gt9223372036854775807+then-total-gt9223372036854775807}
+use Rattle.reduce_ops.proofs.reach.Reach.sum_from.Goals.{then-least-ltminus9223372036854775808-via-then-least-ltminus9223372036854775808}
+use Rattle.reduce_ops.proofs.reach.Reach.sum_from.Goals.{then-least-ltminus9223372036854775808-via-else-least-ltminus9223372036854775808+then-greatest-gt9223372036854775807}
+use Rattle.reduce_ops.proofs.reach.Reach.sum_from.Goals.{then-least-ltminus9223372036854775808-via-else-least-ltminus9223372036854775808+else-greatest-gt9223372036854775807+then-total-gt9223372036854775807}
 use Rattle.reduce_ops.proofs.ExactLemmas.{long_fits}
 use Rattle.reduce_ops.proofs.reach.Reach.sum_from.Goals as goal
 
@@ -16,9 +18,12 @@ returns-then-least-ltminus9223372036854775808 c = λ ordered holds.
     let b : c.args.self.below < 2 ^ 64 = search rules in
     let r : c.args.self.rise < 2 ^ 64 = search rules in
     elim c.then-least-ltminus9223372036854775808.branch [
-      | then-least-ltminus9223372036854775808-via-then-least-ltminus9223372036854775808 w ↦ let k = w.if-least-ltminus9223372036854775808.true in omega (arith, ints)
-      | then-least-ltminus9223372036854775808-via-else-least-ltminus9223372036854775808+then-greatest-gt9223372036854775807 w ↦ let k = w.if-greatest-gt9223372036854775807.true in omega (arith, ints)
-      | then-least-ltminus9223372036854775808-via-else-least-ltminus9223372036854775808+else-greatest-gt9223372036854775807+then-total-gt9223372036854775807 w ↦ let k = w.if-total-gt9223372036854775807.true in omega (arith, ints)
+      | then-least-ltminus9223372036854775808-via-then-least-ltminus9223372036854775808 w ↦ let k =
+          w.if-least-ltminus9223372036854775808.true in omega (arith, ints)
+      | then-least-ltminus9223372036854775808-via-else-least-ltminus9223372036854775808+then-greatest-gt9223372036854775807
+          w ↦ let k = w.if-greatest-gt9223372036854775807.true in omega (arith, ints)
+      | then-least-ltminus9223372036854775808-via-else-least-ltminus9223372036854775808+else-greatest-gt9223372036854775807+then-total-gt9223372036854775807
+          w ↦ let k = w.if-total-gt9223372036854775807.true in omega (arith, ints)
     ]
 
 pub overflow_cast-result : goal.overflow_cast-result

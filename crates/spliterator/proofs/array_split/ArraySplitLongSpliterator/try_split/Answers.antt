@@ -13,8 +13,10 @@ returns-clause-some c =
     let many = c.if-half-eq0.false in
     let h : 0 < length c.split_at.result.0.now = omega arith in
     let k : 0 < length c.split_at.result.1.now = omega arith in
-    let at : c.args.self.now.origin + length c.split_at.result.0.now ≡ c.args.self.now.origin + length c.args.self.now.values.now / 2 = omega arith in
-    subst (λ (n : ℕ). IsSplit (placed o front) (placed n back) (placed o whole)) at (is_cut o front back whole c.split_at.ensures.by_index.0 h k)
+    let at : c.args.self.now.origin + length c.split_at.result.0.now
+    ≡ c.args.self.now.origin + length c.args.self.now.values.now / 2 = omega arith in
+    subst (λ (n : ℕ). IsSplit (placed o front) (placed n back) (placed o whole)) at
+    (is_cut o front back whole c.split_at.ensures.by_index.0 h k)
 
 pub returns-then-half-eq0-clause-few : goal.returns-then-half-eq0-clause-few
 returns-then-half-eq0-clause-few c =

@@ -8,14 +8,17 @@ use Rattle.spliterator.proofs.concat_split.ConcatSplitLongSpliterator.try_advanc
 pub returns-in_default : goal.returns-in_default
 returns-in_default c =
     let s = c.skip_empty_parts.new.self in
-    let left = nothing_left s.origin s.head (all_values s.tail.now) c.in_default.ensures.0 c.skip_empty_parts.ensures.none in
+    let left = nothing_left s.origin s.head (all_values s.tail.now) c.in_default.ensures.0
+    c.skip_empty_parts.ensures.none in
     (sym c.skip_empty_parts.ensures.same ∙ left, left)
 
 pub invariant_of-self : goal.invariant_of-self
 invariant_of-self c =
     let s = c.skip_empty_parts.new.self in
     let values = advanced c.skip_empty_parts.new.self.head c.try_advance.new.self c.in-Some.first c.in-Some.ensures in
-    let size : c.skip_empty_parts.new.self.size ≡ suc (length (plain_values c.try_advance.new.self ++ all_values c.skip_empty_parts.new.self.tail.now)) = s.sized ∙ ap (λ (vs : List ℤ). length (vs ++ all_values s.tail.now)) values in
+    let size : c.skip_empty_parts.new.self.size
+    ≡ suc (length (plain_values c.try_advance.new.self ++ all_values c.skip_empty_parts.new.self.tail.now)) =
+    s.sized ∙ ap (λ (vs : List ℤ). length (vs ++ all_values s.tail.now)) values in
     let short = c.skip_empty_parts.new.self.short in
     record { sized = omega arith; short = omega arith }
 
@@ -27,4 +30,5 @@ returns c =
     let values = advanced s.head c.try_advance.new.self c.in-Some.first c.in-Some.ensures in
     let place : suc c.skip_empty_parts.new.self.origin ≡ c.skip_empty_parts.new.self.origin + 1 = omega arith in
     sym c.skip_empty_parts.ensures.same ∙ ap (λ (vs : List ℤ). placed s.origin (vs ++ all_values s.tail.now)) values
-    ∙ (λ i. record { origin = s.origin; value = sym (to_z-of_z w64 c.in-Some.first.value fits) i } ∷ placed (place i) rest)
+    ∙ (λ i. record { origin = s.origin; value = sym (to_z-of_z w64 c.in-Some.first.value fits) i } ∷ placed (place i)
+    rest)

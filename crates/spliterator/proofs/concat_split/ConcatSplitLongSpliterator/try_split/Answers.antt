@@ -2,7 +2,8 @@ use Rattle.std.proofs.Common.{◌≡◌, ◌+◌, ◌<◌, length, length-append
 use Rattle.trace.specs.Cover.{placed}
 use Rattle.spliterator.specs.Parts.{plain_values, all_values}
 use Rattle.spliterator.proofs.SplitLemmas.{length-placed}
-use Rattle.spliterator.proofs.PartLemmas.{length-plain, split_values, same_split, split_off, split_front, whole_front, half_front}
+use Rattle.spliterator.proofs.PartLemmas.{length-plain, split_values, same_split, split_off, split_front, whole_front}
+use Rattle.spliterator.proofs.PartLemmas.{half_front}
 use Rattle.spliterator.proofs.concat_split.ConcatSplitLongSpliterator.try_split.Goals as goal
 
 pub hand_out-requires-clause-size : goal.hand_out-requires-clause-size
@@ -15,7 +16,9 @@ returns-then-head_size-self-clause-some c =
     let size = s.sized ∙ length-append (plain_values s.head) (all_values s.tail.now) in
     let head = c.exact_size-head_size.ensures ∙ length-plain s.head in
     let some : 0 < length (all_values c.skip_empty_parts.new.self.tail.now) = omega arith in
-    same_split _ _ _ (placed s.origin (plain_values s.head)) (placed (s.origin + length (plain_values s.head)) (all_values s.tail.now)) (placed s.origin (plain_values s.head ++ all_values s.tail.now))
+    same_split _ _ _ (placed s.origin (plain_values s.head))
+    (placed (s.origin + length (plain_values s.head)) (all_values s.tail.now))
+    (placed s.origin (plain_values s.head ++ all_values s.tail.now))
     c.hand_out.ensures.front
     (c.hand_out.ensures.back ∙ (λ i. placed (s.origin + head i) (c.no_items.ensures i ++ all_values s.tail.now)))
     (sym c.skip_empty_parts.ensures.same)
@@ -28,14 +31,16 @@ returns-in_default-clause-few c =
     let size = c.skip_empty_parts.new.self.sized in
     let head = c.exact_size-head_size.ensures in
     let last = c.if-head_size-self.false in
-    let left = ap length (sym c.skip_empty_parts.ensures.same) ∙ length-placed s.origin (plain_values s.head ++ all_values s.tail.now) in
+    let left = ap length (sym c.skip_empty_parts.ensures.same)
+    ∙ length-placed s.origin (plain_values s.head ++ all_values s.tail.now) in
     omega arith
 
 pub hand_out-requires-2-clause-size : goal.hand_out-requires-2-clause-size
 hand_out-requires-2-clause-size c = c.exact_size.ensures ∙ length-plain c.in-Some.front
 
 pub hand_out-requires-2-clause-whole : goal.hand_out-requires-2-clause-whole
-hand_out-requires-2-clause-whole c = split_values c.in-Some.front c.try_split.new.self c.skip_empty_parts.new.self.head c.in-Some.ensures.some
+hand_out-requires-2-clause-whole c = split_values c.in-Some.front c.try_split.new.self c.skip_empty_parts.new.self.head
+    c.in-Some.ensures.some
 
 pub returns-clause-some : goal.returns-clause-some
 returns-clause-some c =
@@ -43,7 +48,9 @@ returns-clause-some c =
     let front = c.in-Some.front in
     let back = c.try_split.new.self in
     let size = c.exact_size.ensures ∙ length-plain front in
-    same_split _ _ _ (placed s.origin (plain_values front)) (placed (s.origin + length (plain_values front)) (plain_values back ++ all_values s.tail.now)) (placed s.origin (plain_values s.head ++ all_values s.tail.now))
+    same_split _ _ _ (placed s.origin (plain_values front))
+    (placed (s.origin + length (plain_values front)) (plain_values back ++ all_values s.tail.now))
+    (placed s.origin (plain_values s.head ++ all_values s.tail.now))
     c.hand_out-2.ensures.front
     (c.hand_out-2.ensures.back ∙ ap (λ n. placed (s.origin + n) (plain_values back ++ all_values s.tail.now)) size)
     (sym c.skip_empty_parts.ensures.same)
@@ -56,7 +63,8 @@ returns-then-head_size-self-clause-front c =
     let size = s.sized ∙ length-append (plain_values s.head) (all_values s.tail.now) in
     let head = c.exact_size-head_size.ensures ∙ length-plain s.head in
     let some : 0 < length (all_values c.skip_empty_parts.new.self.tail.now) = omega arith in
-    c.hand_out.ensures.values ∙ whole_front s.head s.tail.now c.skip_empty_parts.ensures.none some ∙ c.skip_empty_parts.ensures.front
+    c.hand_out.ensures.values ∙ whole_front s.head s.tail.now c.skip_empty_parts.ensures.none some
+    ∙ c.skip_empty_parts.ensures.front
 
 pub returns-clause-front : goal.returns-clause-front
 returns-clause-front c =
@@ -65,4 +73,5 @@ returns-clause-front c =
     let head = c.exact_size-head_size.ensures ∙ length-plain s.head in
     let last = c.if-head_size-self.false in
     let none : length (all_values c.skip_empty_parts.new.self.tail.now) ≡ 0 = omega arith in
-    c.hand_out-2.ensures.values ∙ half_front c.in-Some.front c.try_split.new.self s.head s.tail.now c.in-Some.ensures.some c.in-Some.ensures.half none ∙ c.skip_empty_parts.ensures.front
+    c.hand_out-2.ensures.values ∙ half_front c.in-Some.front c.try_split.new.self s.head s.tail.now
+    c.in-Some.ensures.some c.in-Some.ensures.half none ∙ c.skip_empty_parts.ensures.front

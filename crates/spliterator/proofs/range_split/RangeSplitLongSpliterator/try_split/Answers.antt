@@ -12,6 +12,8 @@ returns-clause-some c =
     let from = c.args.self.now.from in
     let to = c.args.self.now.to in
     let middle = c.args.self.now.from + (c.args.self.now.to - c.args.self.now.from) / 2 in
-    let h : c.args.self.now.from < c.args.self.now.from + (c.args.self.now.to - c.args.self.now.from) / 2 = omega arith in
+    let h : c.args.self.now.from < c.args.self.now.from + (c.args.self.now.to - c.args.self.now.from) / 2 =
+    omega arith in
     let k : c.args.self.now.from + (c.args.self.now.to - c.args.self.now.from) / 2 < c.args.self.now.to = omega arith in
-    subst (λ (a : ℤ). IsSplit (split_items a from middle) (split_items s.start middle to) (split_items s.start from to)) (sym (to_z-of_z w64 s.start fits)) (is_split s.start from middle to h k)
+    subst (λ (a : ℤ). IsSplit (split_items a from middle) (split_items s.start middle to) (split_items s.start from to))
+    (sym (to_z-of_z w64 s.start fits)) (is_split s.start from middle to h k)

@@ -8,7 +8,8 @@ use Rattle.stream_tokens.proofs.cut_text.CutText.column.Goals as goal
 pub overflow_sub-result : goal.overflow_sub-result
 overflow_sub-result c =
     let lookup = c.in-Some.ensures.lookup in
-    let bound = token_bound c.self.inside.text.now c.self.inside.from c.self.inside.to c.self.inside.tokens.now c.args.place c.in-Some.token.now lookup.3.0 c.self.invariant.tokens in
+    let bound = token_bound c.self.inside.text.now c.self.inside.from c.self.inside.to c.self.inside.tokens.now
+    c.args.place c.in-Some.token.now lookup.3.0 c.self.invariant.tokens in
     let e = ap (λ (t : Token). t.from) lookup.1 in
     let low = bound.0 in
     omega arith
@@ -16,7 +17,8 @@ overflow_sub-result c =
 pub overflow_add-result : goal.overflow_add-result
 overflow_add-result c =
     let lookup = c.in-Some.ensures.lookup in
-    let bound = token_bound c.self.inside.text.now c.self.inside.from c.self.inside.to c.self.inside.tokens.now c.args.place c.in-Some.token.now lookup.3.0 c.self.invariant.tokens in
+    let bound = token_bound c.self.inside.text.now c.self.inside.from c.self.inside.to c.self.inside.tokens.now
+    c.args.place c.in-Some.token.now lookup.3.0 c.self.invariant.tokens in
     let e = ap (λ (t : Token). t.from) lookup.1 in
     let f = ap (λ (t : Token). t.to) lookup.1 in
     let high = bound.1 in

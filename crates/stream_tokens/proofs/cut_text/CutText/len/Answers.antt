@@ -4,4 +4,5 @@ use Rattle.stream_tokens.proofs.CutTextLemmas.{length_shifted}
 use Rattle.stream_tokens.proofs.cut_text.CutText.len.Goals as goal
 
 pub returns : goal.returns
-returns c = sym (length_shifted c.self.inside.from c.self.inside.tokens.now) ∙ ap (λ (t : TokenizedText). length t.tokens) c.self.view_is
+returns c = sym (length_shifted c.self.inside.from c.self.inside.tokens.now)
+    ∙ ap (λ (t : TokenizedText). length t.tokens) c.self.view_is

@@ -7,4 +7,5 @@ returns g c =
     let early : c.requires.decided.0 ≤ c.args._piece.from = c.requires.decided.1 in
     let ordered : c.args._piece.from ≤ c.args._piece.to = c.requires.piece.ordered in
     let within : c.args._piece.to ≤ length (g.P.JobNumbers.numbers c.args._piece.job) = c.requires.piece.within in
-    absurd (no_place_decides (g.P.JobNumbers.numbers c.args._piece.job) c.requires.decided.0 (omega arith) c.requires.decided.2)
+    absurd (no_place_decides (g.P.JobNumbers.numbers c.args._piece.job) c.requires.decided.0 (omega arith)
+    c.requires.decided.2)

@@ -17,11 +17,16 @@ loop-piece-preserved g c =
     let x = c.piece-item.result in
     let y = with_items (get_or xs i x) c.rewrite.new.items in
     let within : i < length xs = omega (arith, c.loop-piece-test.true, c.loop-piece.auto.piece-items) in
-    let lent : c.deref_mut.result.now ≡ x.items = c.deref_mut.ensures.value ∙ sym (ap (λ piece. piece.items) c.piece-item.is) in
-    let written : y.items ≡ c.rewrite.new.items = with_items_is (get_or xs i x) c.rewrite.new.items (c.rewrite.ensures.count ∙ c.deref_mut.ensures.len) in
-    let same : length y.items ≡ length (get_or xs i x).items = ap length written ∙ c.rewrite.ensures.count ∙ ap length c.deref_mut.ensures.value in (
-      piece_changed (λ piece. piece.items) (g.R.Rewrite.rewritten c.loop-piece.pass) (g.R.Rewrite.rewritten c.rewrite.new.self) xs i x y within c.piece-item.is
-          (λ rest. ap (λ items. g.R.Rewrite.rewritten c.loop-piece.pass (items ++ rest)) (sym lent) ∙ c.rewrite.ensures.next rest
+    let lent : c.deref_mut.result.now ≡ x.items =
+    c.deref_mut.ensures.value ∙ sym (ap (λ piece. piece.items) c.piece-item.is) in
+    let written : y.items ≡ c.rewrite.new.items =
+    with_items_is (get_or xs i x) c.rewrite.new.items (c.rewrite.ensures.count ∙ c.deref_mut.ensures.len) in
+    let same : length y.items ≡ length (get_or xs i x).items =
+    ap length written ∙ c.rewrite.ensures.count ∙ ap length c.deref_mut.ensures.value in (
+      piece_changed (λ piece. piece.items) (g.R.Rewrite.rewritten c.loop-piece.pass)
+          (g.R.Rewrite.rewritten c.rewrite.new.self) xs i x y within c.piece-item.is
+          (λ rest. ap (λ items. g.R.Rewrite.rewritten c.loop-piece.pass (items ++ rest)) (sym lent)
+          ∙ c.rewrite.ensures.next rest
           ∙ ap (λ items. items ++ g.R.Rewrite.rewritten c.rewrite.new.self rest) (sym written))
           ∙ c.loop-piece.invariant.0,
       λ full. let old = c.loop-piece.invariant.1 full in
@@ -37,7 +42,8 @@ returns-clause-items g c =
     let rest = sym (drop_of_length-le xs end) in
     sym (append-nil (flat_map (λ piece. piece.items) xs))
     ∙ ap (λ items. flat_map (λ piece. piece.items) xs ++ items) (sym (g.R.Rewrite.nothing c.loop-piece.pass))
-    ∙ (λ j. flat_map (λ piece. piece.items) (all j) ++ g.R.Rewrite.rewritten c.loop-piece.pass (flat_map (λ piece. piece.items) (rest j)))
+    ∙ (λ j. flat_map (λ piece. piece.items) (all j)
+    ++ g.R.Rewrite.rewritten c.loop-piece.pass (flat_map (λ piece. piece.items) (rest j)))
     ∙ c.loop-piece.invariant.0
 
 pub returns-clause-full : goal.returns-clause-full

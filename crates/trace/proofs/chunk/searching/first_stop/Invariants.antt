@@ -4,4 +4,5 @@ use Rattle.trace.proofs.StopLemmas.{StopsLater}
 use Rattle.trace.proofs.chunk.searching.first_stop.Given as goal
 
 abbrev pub invariant-loop-whole : goal.invariant-loop-whole
-invariant-loop-whole g l = StopsLater (g.S.EndTest.stops l.stop) (λ (piece : Vec Item Global). piece.items) l.pieces l.whole
+invariant-loop-whole g l = StopsLater (g.S.EndTest.stops l.stop) (λ (piece : Vec Item Global). piece.items) l.pieces
+    l.whole

@@ -7,9 +7,12 @@ use Rattle.trace.proofs.source.InnerItemsSourceItems.count.Goals as goal
 pub returns-in-Some : goal.returns-in-Some
 returns-in-Some c =
     let self = c.args.self.now in
-    sym (length-at_place self.origin (run_or_listed self.run self.listed.now) ∙ ap (λ run. length (run_or_listed run self.listed.now)) c.in-Some.is ∙ length-counted c.in-Some.run'.first c.in-Some.run'.count)
+    sym (length-at_place self.origin (run_or_listed self.run self.listed.now)
+    ∙ ap (λ run. length (run_or_listed run self.listed.now)) c.in-Some.is
+    ∙ length-counted c.in-Some.run'.first c.in-Some.run'.count)
 
 pub returns-in-None : goal.returns-in-None
 returns-in-None c =
     let self = c.args.self.now in
-    sym (length-at_place self.origin (run_or_listed self.run self.listed.now) ∙ ap (λ run. length (run_or_listed run self.listed.now)) c.in-None.is)
+    sym (length-at_place self.origin (run_or_listed self.run self.listed.now)
+    ∙ ap (λ run. length (run_or_listed run self.listed.now)) c.in-None.is)

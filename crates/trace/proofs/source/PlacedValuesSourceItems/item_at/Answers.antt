@@ -6,7 +6,8 @@ use Rattle.trace.proofs.source.PlacedValuesSourceItems.item_at.Goals as goal
 
 pub overflow_add-result : goal.overflow_add-result
 overflow_add-result c =
-    let within : c.args.position < length c.args.self.now.values.now = rw (length-placed c.args.self.now.origin c.args.self.now.values.now) at c.requires in
+    let within : c.args.position < length c.args.self.now.values.now =
+    rw (length-placed c.args.self.now.origin c.args.self.now.values.now) at c.requires in
     omega (arith, within, c.args.self.now.few)
 
 pub bounds-self-position : goal.bounds-self-position
@@ -14,7 +15,8 @@ bounds-self-position c = rw (length-placed c.args.self.now.origin c.args.self.no
 
 pub offset_bounds-self-position : goal.offset_bounds-self-position
 offset_bounds-self-position c =
-    let within : c.args.position < length c.args.self.now.values.now = rw (length-placed c.args.self.now.origin c.args.self.now.values.now) at c.requires in
+    let within : c.args.position < length c.args.self.now.values.now =
+    rw (length-placed c.args.self.now.origin c.args.self.now.values.now) at c.requires in
     search (rules, within)
 
 pub returns : goal.returns

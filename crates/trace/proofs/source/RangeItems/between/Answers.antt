@@ -16,4 +16,5 @@ returns-clause-some c =
     let n = c.if-from-to.count in
     let same : n ≡ distance c.args.from c.args.to = search rules in
     let few : n ≤ 2 ^ 62 = omega (arith, c.if-count-gt-MAX_SOURCE_SIZE.false) in
-    range_short c.args.from c.args.to n same few ∙ ap (λ (a : ℤ). trace (placed 0 (counted a n)) end.Done) (sym (to_z-of_z w64 c.args.from c.ranges.from))
+    range_short c.args.from c.args.to n same few
+    ∙ ap (λ (a : ℤ). trace (placed 0 (counted a n)) end.Done) (sym (to_z-of_z w64 c.args.from c.ranges.from))
