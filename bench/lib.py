@@ -68,14 +68,15 @@ def peer(work, path, *flags):
     return command
 
 
-def crate_peer(work, path):
+def crate_peer(work, path, *flags):
     """The command of a peer in Rust that is built by cargo with the crates of Debian; None, with a line, if it can't be built."""
     name, sources = os.path.basename(path), os.path.join(work, f'{os.path.basename(path)}-sources')
     if not shutil.which('cargo') or not os.path.isdir(CRATES):
         print(f'{path}: left out, since cargo or the folder {CRATES} (librust-csv-dev and librust-rayon-dev) is not there')
         return None
     shutil.copytree(os.path.join(HERE, path), sources)
-    more = [word for it in ('crates-io.replace-with="debian"', f'debian.directory="{CRATES}"') for word in ('--config', f'source.{it}')]
+    settings = ('source.crates-io.replace-with="debian"', f'source.debian.directory="{CRATES}"', f'build.rustflags={list(flags)}')
+    more = [word for it in settings for word in ('--config', it)]
     ended = subprocess.run(['cargo', 'build', '--release', '--offline', *more], cwd=sources, capture_output=True, text=True, check=False)
     if ended.returncode:
         print(f'{path}: left out, since it was not built: {ended.stderr[-400:]}')

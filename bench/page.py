@@ -9,6 +9,7 @@ import cells
 import lib
 import loops
 import processes
+import warm
 from running import TOP, options_of, read, write
 
 PAGES = ['README.md', 'docs/benchmarks.md']
@@ -28,7 +29,7 @@ def figures(part, words, program):
     """What a part shows, by the titles and the heads of its tables. A row without cells begins a table whose rows are the columns."""
     lib.SHOWN.clear()
     sys.argv = [part, *words.split(), program]
-    next(getattr(it, part) for it in (processes, loops, cells) if hasattr(it, part))()
+    next(getattr(it, part) for it in (processes, loops, cells, warm) if hasattr(it, part))()
     found, heads, group = {}, [], None
     for title, costs in lib.SHOWN:
         if not costs:

@@ -31,13 +31,14 @@ public final class Tasks {
         return (parallel ? rows.parallel() : rows).map(row -> row.split(",", parts));
     }
 
-    private static void readTable(String file) throws IOException {
+    /** Four columns, from this one on. */
+    static void readTable(String file, int first) throws IOException {
         try (Stream<String> lines = Files.lines(Path.of(file))) {
-            String[][] cells = rows(lines, 6).toArray(String[][]::new);
-            b = column(cells, 1);
-            c = column(cells, 2);
-            d = column(cells, 3);
-            e = column(cells, 4);
+            String[][] cells = rows(lines, first + 5).toArray(String[][]::new);
+            b = column(cells, first);
+            c = column(cells, first + 1);
+            d = column(cells, first + 2);
+            e = column(cells, first + 3);
         }
     }
 
@@ -45,10 +46,10 @@ public final class Tasks {
         return Stream.of(cells).mapToLong(row -> Long.parseLong(row[index])).toArray();
     }
 
-    /** The second column alone. */
-    private static void readOne(String file) throws IOException {
+    /** One column alone. */
+    static void readOne(String file, int index) throws IOException {
         try (Stream<String> lines = Files.lines(Path.of(file))) {
-            b = rows(lines, 3).mapToLong(row -> Long.parseLong(row[1])).toArray();
+            b = rows(lines, index + 2).mapToLong(row -> Long.parseLong(row[index])).toArray();
         }
     }
 
@@ -104,20 +105,21 @@ public final class Tasks {
         };
     }
 
-    private static String text(Object answer) {
+    static String text(Object answer) {
         return answer instanceof long[] values
                 ? mode(LongStream.of(values)).mapToObj(String::valueOf).collect(Collectors.joining(", ", "[", "]"))
                 : answer.toString();
     }
 
-    private static void print(String task) {
+    /** The answers of a task, as streamrun reports them. */
+    static String report(String task) {
         List<Object> answers = run(task);
         StringBuilder out = new StringBuilder();
         for (int i = 0; i < answers.size(); i++) {
             String name = answers.size() == 1 ? "s" : "j" + (task.equals("twelve") ? i + 1 : i);
             out.append(name).append(" = ").append(text(answers.get(i))).append('\n');
         }
-        System.out.print(out);
+        return out.toString();
     }
 
     private static void time(String task, int threads, int rounds) throws Exception {
@@ -138,10 +140,10 @@ public final class Tasks {
             return;
         }
         if (task.equals("one_sum")) {
-            readOne(words[2]);
+            readOne(words[2], 1);
         } else if (task.equals("twelve")) {
-            readTable(words[2]);
+            readTable(words[2], 1);
         }
-        print(task);
+        System.out.print(report(task));
     }
 }

@@ -76,26 +76,26 @@ fn merged(left: Totals, right: Totals) -> Totals {
     all
 }
 
-fn optional(value: Option<i64>) -> String {
+pub fn optional(value: Option<i64>) -> String {
     value.map_or("OptionalLong.empty".to_string(), |value| format!("OptionalLong[{value}]"))
 }
 
-fn print(all: Totals, twelve: bool) {
+fn report(all: Totals, twelve: bool) -> String {
     if !twelve {
-        return println!("s = {}", all.sums[0]);
+        return format!("s = {}\n", all.sums[0]);
     }
     let [sum, positive, rests, halves, squares, magnitudes] = all.sums;
-    println!("j1 = {sum}\nj2 = {positive}\nj3 = {}\nj4 = {}", optional(Some(all.least)), optional(all.greatest[0]));
-    println!("j5 = {rests}\nj6 = {halves}\nj7 = {}\nj8 = {squares}", all.any_negative[0]);
-    println!("j9 = {}\nj10 = {}", optional(all.greatest[1]), !all.any_negative[1]);
-    println!("j11 = {}\nj12 = {magnitudes}", optional(all.greatest[2]));
+    let [least, greatest] = [Some(all.least), all.greatest[0]].map(optional);
+    let [greatest_of_c, greatest_of_d] = [all.greatest[1], all.greatest[2]].map(optional);
+    let [any_of_b, all_of_c] = [all.any_negative[0], !all.any_negative[1]];
+    format!("j1 = {sum}\nj2 = {positive}\nj3 = {least}\nj4 = {greatest}\n")
+        + &format!("j5 = {rests}\nj6 = {halves}\nj7 = {any_of_b}\nj8 = {squares}\n")
+        + &format!("j9 = {greatest_of_c}\nj10 = {all_of_c}\nj11 = {greatest_of_d}\nj12 = {magnitudes}\n")
 }
 
-fn main() {
-    let words: Vec<String> = env::args().collect();
-    let bytes = fs::read(&words[1]).unwrap();
-    let threads: usize = words[2].parse().unwrap();
-    let twelve = words[3] == "twelve";
+/// The report over a file, whose rows are cut into a part for each thread.
+pub fn report_of(file: &str, threads: usize, twelve: bool) -> String {
+    let bytes = fs::read(file).unwrap();
     let first = bytes.iter().position(|byte| *byte == b'\n').unwrap() + 1;
     let width = bytes[..first].iter().filter(|byte| **byte == b',').count() + 1;
     let rows = &bytes[first..];
@@ -112,5 +112,10 @@ fn main() {
             .collect();
         running.into_iter().map(|part| part.join().unwrap()).collect()
     });
-    print(parts.into_iter().reduce(merged).unwrap(), twelve);
+    report(parts.into_iter().reduce(merged).unwrap(), twelve)
+}
+
+fn main() {
+    let words: Vec<String> = env::args().collect();
+    print!("{}", report_of(&words[1], words[2].parse().unwrap(), words[3] == "twelve"));
 }
