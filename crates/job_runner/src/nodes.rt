@@ -17,6 +17,9 @@ const VALUES_FOR_POSITION: u64 = 16;
 /// How many pieces for each worker a leg of few items is cut into, if nobody knows how many values these become.
 const PIECES_IF_UNKNOWN: u64 = 8;
 
+/// How many positions the caller has walked, about, by the time that another thread is at work.
+const POSITIONS_ALONE: u64 = 32_768;
+
 /// The most positions of one of that many equal pieces.
 fn share_of(size: u64, pieces: u64) -> u64
     ensures { 0 < result }
@@ -57,6 +60,31 @@ pub(crate) fn leg_count<S: JobLegs>(jobs: &S) -> u64 {
         count = count.saturating_add(of_job);
     }
     count
+}
+
+/// How many positions all legs have together; the greatest u64 if this isn't known, or if items become many.
+fn all_positions<S: JobLegs>(jobs: &S) -> u64 {
+    let mut count = 0u64;
+    for job in 0..jobs.jobs() {
+        for leg in 0..=jobs.last_leg(job) {
+            let likely = jobs.likely_size(job, leg);
+            if likely == 0 || jobs.likely_values(job, leg) != Some(1) {
+                return u64::MAX;
+            }
+            count = count.saturating_add(likely);
+        }
+    }
+    count
+}
+
+/// How many workers a run is worth: one, if the settings leave it to the run and the caller has walked all positions
+/// before another thread is at work.
+pub(crate) fn workers_worth<S: JobLegs>(jobs: &S, settings: Settings) -> usize {
+    if settings.is_adaptive() && all_positions(jobs) <= POSITIONS_ALONE {
+        1
+    } else {
+        settings.workers() as usize
+    }
 }
 
 /// The most nodes that a leg of this many positions uses, if pieces longer than `longest` are cut. Each cut leaves half

@@ -8,6 +8,7 @@ use crate::NoMemory;
 use crate::alone::answer_alone;
 use crate::earlier::Earlier;
 use crate::legs::JobLegs;
+use crate::nodes::workers_worth;
 use crate::opening::TableFreshCounts;
 use crate::places::{JobPlaces, answer_in, empty_places};
 use crate::task::RunBrand;
@@ -109,8 +110,8 @@ where
 {
     let (work, tasks, idles) = TableWork::<S, R>::new(alloc, jobs, settings, opened)?;
     // There are never more tasks than nodes.
-    let nodes = work.nodes.counts.nodes() as usize;
-    run_tasks(rt, alloc, gate, &work, tasks, idles, nodes);
+    let most = workers_worth(jobs, settings).min(work.nodes.counts.nodes() as usize);
+    run_tasks(rt, alloc, gate, &work, tasks, idles, most);
     Ok(work.places)
 }
 
