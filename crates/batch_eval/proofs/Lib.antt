@@ -1,5 +1,6 @@
 pub mod BatchWalkLemmas
 pub mod ChoiceLemmas
+pub mod FaultlessLemmas
 pub mod FewLemmas
 pub mod FlagLemmas
 pub mod FlaggedLemmas

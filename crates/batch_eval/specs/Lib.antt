@@ -2,6 +2,7 @@
 pub mod BatchItems
 pub mod Batches
 pub mod Choices
+pub mod Faultless
 pub mod InnerColumns
 pub mod Lanes
 pub mod NumberTests

@@ -8,6 +8,7 @@
 //!
 //! Stands on `lambda_values` and `trace`. What it promises to its users: `feed_batches`, clauses `fed`, `flow` and
 //! `refused`, which repeat the clauses of `feed_all` word for word.
+//! Of stages alone, `are_maps` and `are_faultless` say what no walk through them can meet (`faultless.rt`).
 //! Begin with `feeding.rt`, `batch.rt` and `register.rt`, and `specs/Lanes.antt` (`Reaches`).
 //! Not promised: how fast it is (`bench/` measures it), and that memory for registers is there.
 //!
@@ -24,6 +25,7 @@ mod counted;
 mod dispatch;
 mod division;
 mod exact;
+mod faultless;
 mod feeding;
 mod few;
 mod filtering;
@@ -54,6 +56,7 @@ mod staging;
 mod step;
 
 pub use batch_items::BatchItems;
+pub use faultless::{after_stages, are_faultless, are_maps};
 pub use feeding::{feed_at_once, feed_batches};
 pub use flagged::{FlaggedLanes, accept_each_flagged};
 pub use lane_items::LaneItems;

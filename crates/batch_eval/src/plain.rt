@@ -9,15 +9,11 @@ ghost use Rattle.trace.specs.Trace.{trace};
 
 use crate::batch::Batch;
 use crate::cheap::stay_in_lanes;
+use crate::faultless::are_maps;
 use crate::lane_items::LaneItems;
 use crate::pipeline::Pipeline;
 use crate::register::LANES;
 use trace::{End, Stage};
-
-/// Whether all of these stages are `map`s.
-fn are_maps(stages: &[Stage]) -> bool {
-    stages.iter().all(|stage| matches!(stage, Stage::Map(_)))
-}
 
 // Functions of their own keep what is there for each kind of sink small.
 impl Batch {

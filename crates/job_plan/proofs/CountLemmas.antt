@@ -23,8 +23,7 @@ use Rattle.job_plan.specs.declared.part.Part.TheVariants as part
 use Rattle.job_routes.specs.declared.ends.Fold.{Fold}
 use Rattle.job_routes.specs.declared.segment.Segment.{Segment}
 use Rattle.job_routes.specs.declared.ends.SegmentEnd.TheVariants as ends
-use Rattle.prefix_walks.specs.Faultless.{AreFaultless}
-use Rattle.job_routes.specs.Building.{AreMaps}
+use Rattle.batch_eval.specs.Faultless.{AreFaultless, AreMaps}
 use Rattle.job_plan.specs.Parts.{EndsFor, IsFold, StandsFor}
 use Rattle.job_routes.specs.Legs.{end_in, segment_in}
 use Rattle.prefix_walks.specs.Pieces.{piece_of, span}

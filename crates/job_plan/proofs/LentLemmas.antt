@@ -13,7 +13,7 @@ use Rattle.job_plan.specs.declared.part.Part.TheVariants as part
 use Rattle.prefix_walks.specs.declared.prefix.Prefix.{Prefix}
 use Rattle.job_routes.specs.declared.segment.Segment.{Segment}
 use Rattle.job_routes.specs.declared.ends.SegmentEnd.TheVariants as ends
-use Rattle.prefix_walks.specs.Faultless.{AreFaultless, left_by}
+use Rattle.batch_eval.specs.Faultless.{AreFaultless, left_by}
 use Rattle.job_routes.specs.Legs.{number_after, end_in, segment_in}
 use Rattle.job_plan.specs.Parts.{EndsFor, StandsFor}
 use Rattle.prefix_walks.specs.Pieces.{after, elements, piece_of, span}
@@ -23,7 +23,7 @@ use Rattle.trace.proofs.JoinLemmas.{append_nothing}
 use Rattle.job_language.specs.Jobs.{sources_of, AbstractPlainSource, source_of}
 use Rattle.job_language.specs.declared.job.PlainSource.{PlainSource}
 use Rattle.job_meaning.specs.Walks.{values_of, plain_values, source_walk}
-use Rattle.prefix_walks.proofs.FaultlessLemmas.{left_none}
+use Rattle.batch_eval.proofs.FaultlessLemmas.{left_none}
 use Rattle.prefix_walks.proofs.Elements.{elements_none, source_parts}
 use Rattle.std.proofs.lemmas.Bool.{ltb-true, lt-ltb}
 use Rattle.trace.proofs.Sources.{length-counted}

@@ -14,8 +14,9 @@ ghost use Rattle.prefix_walks.specs.Pieces.{piece_of};
 use crate::fold_part::FoldPart;
 use crate::part::Part;
 use crate::source::Source;
-use job_routes::{Fold, Segment, SegmentEnd, are_maps};
-use prefix_walks::{Window, are_faultless, within};
+use batch_eval::{are_faultless, are_maps};
+use job_routes::{Fold, Segment, SegmentEnd};
+use prefix_walks::{Window, within};
 use reduce_ops::{Op, Partial};
 use trace::{End, Item, MAX_SOURCE_SIZE, Stage};
 

@@ -9,7 +9,7 @@ ghost use Rattle.trace.specs.Stages.{stages_of};
 ghost use Rattle.trace.specs.Trace.{trace};
 ghost use Rattle.trace.specs.declared.item.End.TheVariants as end;
 ghost use Rattle.job_language.specs.Jobs.{sources_of};
-ghost use Rattle.prefix_walks.specs.Faultless.{left_by};
+ghost use Rattle.batch_eval.specs.Faultless.{left_by};
 ghost use Rattle.job_plan.specs.Parts.{StandsFor, end_keeps_items, walk_in};
 ghost use Rattle.job_routes.specs.Legs.{end_in, segment_in};
 ghost use Rattle.prefix_walks.specs.Pieces.{elements, piece_of};

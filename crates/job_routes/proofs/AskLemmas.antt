@@ -18,7 +18,8 @@ use Rattle.job_routes.specs.declared.building.Begun.{Begun}
 use Rattle.job_routes.specs.declared.leg.Leg.{Leg}
 use Rattle.job_routes.specs.declared.numbered_stages.NumberedStages.{NumberedStages}
 use Rattle.job_language.specs.Jobs.{AbstractPlainSource}
-use Rattle.job_routes.specs.Building.{AreMaps, HasNext, begun_walk, walk_over}
+use Rattle.batch_eval.specs.Faultless.{AreMaps}
+use Rattle.job_routes.specs.Building.{HasNext, begun_walk, walk_over}
 use Rattle.job_routes.specs.Legs.{AbstractEnd, ended, finding, given_walk, leg_in, leg_outcome, legs_in, linked}
 use Rattle.job_routes.specs.Legs.{links_in, number_after, scanned, walk_through, windowed}
 use Rattle.job_routes.proofs.MapLemmas.{limit_before_maps, limited_end, limited_next, limited_none}

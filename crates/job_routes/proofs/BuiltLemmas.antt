@@ -11,8 +11,8 @@ use Rattle.job_meaning.specs.Walks.{source_walk}
 use Rattle.prefix_walks.specs.declared.window.Window.{Window}
 use Rattle.job_routes.specs.declared.building.Begun.{Begun}
 use Rattle.job_routes.specs.declared.leg.Link.{Link}
-use Rattle.prefix_walks.specs.Faultless.{AreFaultless}
-use Rattle.job_routes.specs.Building.{AreMaps, HasNext, IsClean, begun_walk, walk_over}
+use Rattle.batch_eval.specs.Faultless.{AreFaultless, AreMaps}
+use Rattle.job_routes.specs.Building.{HasNext, IsClean, begun_walk, walk_over}
 use Rattle.job_routes.specs.Legs.{legs_in, links_in, number_after, walk_through, ended, folding, finding, linked}
 use Rattle.job_routes.specs.Legs.{scanned, windowed}
 use Rattle.find_ops.specs.Finds.{find_of}

@@ -1,20 +1,17 @@
 -- Slices that come after maps alone.
-use Rattle.std.proofs.Common.{◌≡◌, ℕ, zero, suc, ◌+◌, ℤ, nat_lt, if◌then◌else◌, Bool, true, false, List, [], ◌∷◌, ◌++◌}
+use Rattle.std.proofs.Common.{◌≡◌, ℕ, zero, suc, ◌+◌, nat_lt, if◌then◌else◌, Bool, true, false, List, [], ◌∷◌, ◌++◌}
 use Rattle.std.proofs.Common.{length, take, Result, Ok, Err, refl, sym, ap, ◌∙◌, arith}
 use Rattle.std.proofs.lemmas.Bool.{ltb-false, ltb-true, lt-ltb}
 use Rattle.lambda_values.specs.Earlier.{Numbers}
-use Rattle.lambda_values.specs.Term.{Long, parameter}
-use Rattle.lambda_values.specs.Value.{long_value}
-use Rattle.lambda_values.specs.declared.fault.FaultKind.{FaultKind}
+use Rattle.lambda_values.specs.Term.{parameter}
 use Rattle.trace.specs.declared.item.Fault.{Fault}
 use Rattle.lambda_values.specs.declared.item.Item.{Item}
 use Rattle.trace.specs.declared.item.End.{End}
 use Rattle.trace.specs.declared.item.End.TheVariants as end
-use Rattle.trace.specs.Stages.{AbstractStage, map, image, pipe, through}
+use Rattle.trace.specs.Stages.{AbstractStage, map, pipe, through}
 use Rattle.trace.specs.Trace.{Trace, trace, nothing, append}
 use Rattle.slice_ops.specs.Slices.{limited, skipped}
-use Rattle.prefix_walks.specs.Faultless.{AreFaultless}
-use Rattle.job_routes.specs.Building.{AreMaps, one_or}
+use Rattle.batch_eval.specs.Faultless.{AreFaultless, AreMaps, one_or}
 use Rattle.trace.proofs.JoinLemmas.{pipe_ended, pipe_more}
 use Rattle.prefix_walks.proofs.Elements.{drop_none, take_none}
 
@@ -49,17 +46,6 @@ limited_next n x t = by (nat_lt (length t.items) n) refl (nat_lt (suc (length t.
         absurd (omega (arith, l, m))
     by false h true k = let l = ltb-false (length t.items) n h in let m = ltb-true (suc (length t.items)) (suc n) k in
         absurd (omega (arith, l, m))
-
-pub no_maps : AreMaps []
-no_maps m env x = (Ok x, refl)
-
-pub more_maps : (e : Long) (gs : List AbstractStage) → AreMaps gs → AreMaps (map e ∷ gs)
-more_maps e gs h m env x = by (long_value e x env)
-  where
-    by : (r : Result ℤ FaultKind) → (made : Result Item Fault)
-        × (pipe (suc m) gs env (append (image m x r) nothing) ≡ one_or made)
-    by (Ok v) = h (suc m) env (record { origin = x.origin; value = v })
-    by (Err k) = (Err _, pipe_ended (suc m) gs env _)
 
 -- what maps make of a first item, and of those after it
 first_made : (gs : List AbstractStage) (h : AreMaps gs) (m : ℕ) (env : Numbers) (x : Item) (xs : List Item) (e : End)

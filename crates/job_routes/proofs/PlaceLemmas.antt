@@ -22,7 +22,7 @@ use Rattle.sort_ops.specs.Runs.{with_places, without_places}
 use Rattle.sort_ops.proofs.ValueLemmas.{same_values, sorted_without, with_joined, without_dropped, without_taken}
 use Rattle.find_ops.specs.Finds.{first}
 use Rattle.prefix_walks.specs.Batches.{counted_as}
-use Rattle.prefix_walks.specs.Faultless.{AreFaultless}
+use Rattle.batch_eval.specs.Faultless.{AreFaultless}
 use Rattle.prefix_walks.specs.Pieces.{elements}
 use Rattle.job_language.specs.Jobs.{AbstractPlainSource, item}
 use Rattle.job_language.specs.Places.{stage_is_placeless}

@@ -18,7 +18,7 @@ use Rattle.find_ops.specs.declared.terminal.FindTerminal.TheVariants as terminal
 use Rattle.job_language.specs.Jobs.{AbstractTerminal, sum, count}
 use Rattle.job_meaning.specs.declared.answer.Answer.TheVariants as answer
 use Rattle.job_meaning.specs.Walks.{answer_of, unless_fault}
-use Rattle.prefix_walks.specs.Faultless.{AreFaultless}
+use Rattle.batch_eval.specs.Faultless.{AreFaultless}
 use Rattle.job_routes.specs.declared.outcome.Outcome.TheVariants as outcome
 use Rattle.job_routes.specs.Building.{IsClean}
 use Rattle.job_routes.specs.Legs.{end_of, ended, finding, folding, given_answer}

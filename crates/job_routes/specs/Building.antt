@@ -1,26 +1,15 @@
 -- Condition: the legs of a job, built stage by stage.
-use Rattle.std.specs.Prelude.{◌≡◌, ◌≤◌, ℕ, suc, false, List, [], ◌∷◌, Result, Ok, Err, length}
+use Rattle.std.specs.Prelude.{◌≡◌, ◌≤◌, ℕ, suc, false, List, [], length}
 use Rattle.lambda_values.specs.Earlier.{Numbers}
 use Rattle.trace.specs.declared.item.Fault.{Fault}
-use Rattle.lambda_values.specs.declared.item.Item.{Item}
 use Rattle.trace.specs.declared.item.End.TheVariants as end
 use Rattle.trace.specs.Stages.{AbstractStage, pipe}
-use Rattle.trace.specs.Trace.{Trace, trace}
+use Rattle.trace.specs.Trace.{Trace}
 use Rattle.sort_ops.specs.Runs.{with_places}
 use Rattle.job_language.specs.Jobs.{AbstractPlainSource}
 use Rattle.job_meaning.specs.Walks.{source_walk}
 use Rattle.job_routes.specs.declared.building.Begun.{Begun}
 use Rattle.job_routes.specs.Legs.{legs_in, links_in, number_after, walk_through, linked, scanned, windowed}
-
--- one item, or a fault
-abbrev pub one_or : Result Item Fault → Trace
-one_or (Ok x) = trace (x ∷ []) end.Done
-one_or (Err f) = trace [] (end.Fault f)
-
--- stages make one item, or a fault, of each item
-abbrev pub AreMaps : List AbstractStage → Type 0
-AreMaps gs = (m : ℕ) (env : Numbers) (x : Item)
-    → (r : Result Item Fault) × (pipe m gs env (trace (x ∷ []) end.Done) ≡ one_or r)
 
 -- a walk without an item before a fault
 abbrev pub IsClean : Trace → Type 0

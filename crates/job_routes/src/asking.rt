@@ -3,14 +3,15 @@
 ghost use Rattle.std.specs.Prelude.{◌≡◌, ◌<◌, ◌+◌, ℕ, List, [], None, IfSome, false, true};
 ghost use Rattle.trace.specs.Stages.{stages_of};
 ghost use Rattle.lambda_values.specs.Earlier.{Numbers};
+ghost use Rattle.batch_eval.specs.Faultless.{AreMaps};
 ghost use Rattle.slice_ops.specs.Slices.{limited};
 ghost use Rattle.job_language.specs.Jobs.{AbstractPlainSource};
-ghost use Rattle.job_routes.specs.Building.{AreMaps, begun_walk};
+ghost use Rattle.job_routes.specs.Building.{begun_walk};
 ghost use Rattle.job_routes.specs.Legs.{end_in, ended};
 
 use crate::building::Begun;
 use crate::ends::SegmentEnd;
-use crate::maps::are_maps;
+use batch_eval::are_maps;
 
 impl Begun {
     /// How many items of the last leg are enough for this number of items, if only maps come between.

@@ -15,13 +15,13 @@ ghost use Rattle.job_routes.specs.Legs.{ended, given_walk, legs_answer, scanned,
 
 use crate::ends::SegmentEnd;
 use crate::leg::{Leg, Link};
-use crate::maps::are_maps;
 use crate::numbered_stages::NumberedStages;
 use crate::segment::Segment;
+use batch_eval::{are_faultless, are_maps};
 use find_ops::FindTerminal;
 use job_language::{JobStage, Terminal};
 use lambda_values::LongExpr;
-use prefix_walks::{Prefix, Window, are_faultless};
+use prefix_walks::{Prefix, Window};
 use slice_ops::Slice;
 use std::alloc::Global;
 use std::mem;

@@ -10,7 +10,7 @@ ghost use Rattle.job_routes.specs.Legs.{end_in, ended};
 
 use crate::building::Begun;
 use crate::ends::SegmentEnd;
-use prefix_walks::are_faultless;
+use batch_eval::are_faultless;
 use trace::Stage;
 
 impl Begun {

@@ -4,7 +4,7 @@ ghost use Rattle.std.specs.Prelude.{◌≡◌};
 ghost use Rattle.job_routes.specs.Legs.{is_in_order, segment_in};
 
 use crate::ends::SegmentEnd;
-use crate::maps::makes_many;
+use crate::many::makes_many;
 use crate::numbered_stages::NumberedStages;
 
 /// Stages that look at one item at a time, and what ends them: the end is the stage after them.

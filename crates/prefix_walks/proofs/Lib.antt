@@ -1,7 +1,6 @@
 -- The lemmas of this crate; the first line of each file says what they are about.
 pub mod BatchLemmas
 pub mod Elements
-pub mod FaultlessLemmas
 pub mod FeedLemmas
 pub mod FlaggedFolds
 pub mod KeptLemmas

@@ -6,8 +6,8 @@ use Rattle.std.proofs.Math.Seq.{take-add}
 use Rattle.lambda_values.specs.declared.item.Item.{Item}
 use Rattle.trace.specs.Stages.{AbstractStage}
 use Rattle.prefix_walks.specs.declared.folded_piece.FoldedPiece.{FoldedPiece}
-use Rattle.prefix_walks.specs.Faultless.{AreFaultless, left_by}
-use Rattle.prefix_walks.proofs.FaultlessLemmas.{left_both}
+use Rattle.batch_eval.specs.Faultless.{AreFaultless, left_by}
+use Rattle.batch_eval.proofs.FaultlessLemmas.{left_both}
 
 -- what stages leave of some items more
 pub lent_next : (gs : List AbstractStage) → AreFaultless false gs

@@ -1,6 +1,5 @@
 -- Condition: the files of this crate's definitions; the first line of each says what it is.
 pub mod Batches
-pub mod Faultless
 pub mod Kept
 pub mod Pieces
 pub mod Placing

@@ -11,7 +11,7 @@ use Rattle.prefix_scan.specs.Scans.{fold_at, scan_at}
 use Rattle.prefix_walks.specs.declared.folded_piece.FoldedPiece.{FoldedPiece}
 use Rattle.prefix_walks.specs.declared.folded_piece.PieceStart.{PieceStart}
 use Rattle.trace.specs.Stages.{stages_of}
-use Rattle.prefix_walks.specs.Faultless.{left_by}
+use Rattle.batch_eval.specs.Faultless.{left_by}
 use Rattle.batch_eval.specs.BatchItems.{batch_items}
 use Rattle.prefix_walks.specs.declared.piece_items.PieceItems.{PieceItems}
 use Rattle.prefix_walks.specs.declared.piece_items.PieceItems.TheVariants as piece

@@ -3,19 +3,18 @@
 ghost use Rattle.std.specs.Prelude.{◌≡◌, ◌≤◌, ◌<◌, ◌^◌, IfSome, false, length};
 ghost use Rattle.trace.specs.Stages.{stages_of};
 ghost use Rattle.batch_eval.specs.BatchItems.{batch_items};
-ghost use Rattle.prefix_walks.specs.Faultless.{AreFaultless, AreFaultless-prop, left_by};
+ghost use Rattle.batch_eval.specs.Faultless.{AreFaultless, AreFaultless-prop, left_by};
 
-use crate::faultless::after_stages;
 use crate::piece_buffer::PieceBuffer;
-use batch_eval::{BatchItems, Pipeline, Registers, feed_at_once};
+use batch_eval::{BatchItems, Pipeline, Registers, after_stages, feed_at_once};
 use lambda_values::Env;
 use std::alloc::Global;
 use trace::Stage;
 
-/// How many operators cheap stages have at most. What they leave of a value is computed twice, for the fold of a piece
-/// and where the piece is read, and takes no memory. With several workers, or where most values pass, that takes less
-/// time than to write what is left and to read it again. With one worker it takes more where few pass.
-const MOST_OPERATORS: u32 = 4;
+/// What cheap stages cost at most. What they leave of a value is computed twice, for the fold of a piece and where the
+/// piece is read, and takes no memory. With several workers, or where most values pass, that takes less time than to
+/// write what is left and to read it again. With one worker it takes more where few pass.
+const MOST_COST: u32 = 5;
 
 /// Maps and filters, one after the other. Each names no earlier job and can't have a fault. There may be none.
 #[derive(Clone, Copy)]
@@ -33,7 +32,7 @@ impl<'a> CheapStages<'a> {
         requires { length stages.now < 2 ^ 32 }
         ensures { IfSome result (λ cheap. cheap.stages.now ≡ stages.now) }
     {
-        let _ = after_stages(stages, MOST_OPERATORS, false)?;
+        let _ = after_stages(stages, MOST_COST, false)?;
         Some(CheapStages { alloc, stages })
     }
 

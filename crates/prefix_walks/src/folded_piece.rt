@@ -3,7 +3,7 @@
 ghost use Rattle.std.specs.Prelude.{◌≡◌, ◌≤◌, ◌++◌, true, Ok, length, map, IfOk};
 ghost use Rattle.trace.specs.Stages.{stages_of};
 ghost use Rattle.batch_eval.specs.BatchItems.{batch_items};
-ghost use Rattle.prefix_walks.specs.Faultless.{left_by};
+ghost use Rattle.batch_eval.specs.Faultless.{left_by};
 ghost use Rattle.prefix_walks.specs.Placing.{IsAt};
 ghost use Rattle.prefix_walks.specs.Scans.{IsFolded, items_of};
 

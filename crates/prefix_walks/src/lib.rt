@@ -7,7 +7,7 @@
 //! that they come out of. Two parts side by side merge. `finish` gives a `GivenWalk`, whose items are scanned as
 //! `feed_given` takes them through the stages of the next segment. A `GivenWalk` may also keep items, or the runs of a
 //! sort, of which `kept_runs.rt` puts those in order that are asked for. The folds of batches (`folded`,
-//! `folded_flagged`) and the question whether stages can't have a fault (`are_faultless`) are of use without a prefix.
+//! `folded_flagged`) are of use without a prefix.
 //! Not promised: that a value is read once. What cheap stages leave of a borrowed value is worked out for its fold and
 //! again where it is read.
 //!
@@ -15,7 +15,6 @@
 #![tactic(auto)]
 
 mod cheap_stages;
-mod faultless;
 mod folded_piece;
 mod folded_walk;
 mod folding;
@@ -39,7 +38,6 @@ mod window;
 mod worked;
 
 pub use cheap_stages::CheapStages;
-pub use faultless::are_faultless;
 pub use folding::{folded, folded_flagged};
 pub use given::GivenWalk;
 pub use laws::pieces_join;

@@ -7,7 +7,7 @@ ghost use Rattle.trace.specs.declared.item.End.TheVariants as end;
 ghost use Rattle.batch_eval.specs.BatchItems.{batch_items};
 ghost use Rattle.reduce_ops.specs.Operators.{value_of};
 ghost use Rattle.prefix_scan.specs.Prefixes.{ends_after, prefixed, prefixed_items};
-ghost use Rattle.prefix_walks.specs.Faultless.{left_by};
+ghost use Rattle.batch_eval.specs.Faultless.{left_by};
 ghost use Rattle.prefix_walks.specs.Scans.{IsFolded, all_items, scan, scan_append};
 
 use crate::cheap_stages::CheapStages;

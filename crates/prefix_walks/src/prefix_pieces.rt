@@ -4,7 +4,7 @@ ghost use Rattle.std.specs.Prelude.{◌≡◌, ◌+◌, ◌<◌, ◌≤◌, ◌^
 ghost use Rattle.trace.specs.Cover.{placed};
 ghost use Rattle.trace.specs.Stages.{stages_of};
 ghost use Rattle.batch_eval.specs.BatchItems.{batch_items};
-ghost use Rattle.prefix_walks.specs.Faultless.{left_by};
+ghost use Rattle.batch_eval.specs.Faultless.{left_by};
 ghost use Rattle.prefix_walks.specs.Placing.{IsAt};
 ghost use Rattle.prefix_walks.specs.Scans.{IsFolded, all_items, items_of};
 

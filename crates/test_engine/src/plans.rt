@@ -75,6 +75,7 @@ range(0, 9).skip(1).sum() => 36; from 1, 0 slices, 0 at 2
 range(0, 9).skip(1).limit(2).map(x -> x).sum() => 3; from 1 to 3, 0 slices, 1 at 3
 range(0, 9).limit(2).skip(0).map(x -> x).skip(1).sum() => 1; from 1 to 2, 0 slices, 2 at 3
 range(0, 9).map(x -> x).skip(1).sum() => 36; from 1, 0 slices, 2 at 1
+range(0, 9).map(x -> x / -7).skip(1).sum() => -2; from 1, 0 slices, 2 at 1
 range(0, 9).limit(1).limit(0).skip(1).sum() => 0; from 0 to 1, 2 slices, 0 at 4
 range(0, 9).skip(1).takeWhile(x -> true).skip(1).sum() => 35; from 1, 2 slices, 0 at 4
 range(0, 9).dropWhile(x -> true).skip(1).sum() => 0; from 0, 2 slices, 0 at 3

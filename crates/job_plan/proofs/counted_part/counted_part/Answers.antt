@@ -1,7 +1,6 @@
 use Rattle.std.proofs.Common.{◌≡◌, true, length, ap, ◌∙◌, arith}
 use Rattle.trace.specs.Stages.{stages_of}
-use Rattle.prefix_walks.specs.Faultless.{AreFaultless}
-use Rattle.job_routes.specs.Building.{AreMaps}
+use Rattle.batch_eval.specs.Faultless.{AreFaultless, AreMaps}
 use Rattle.job_plan.specs.Parts.{walk_in}
 use Rattle.prefix_walks.specs.Pieces.{span}
 use Rattle.job_plan.proofs.CountLemmas.{counted_stands}

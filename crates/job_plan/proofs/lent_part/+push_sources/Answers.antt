@@ -3,11 +3,11 @@ use Rattle.trace.specs.Cover.{placed}
 use Rattle.trace.specs.Stages.{stages_of}
 use Rattle.batch_eval.specs.BatchItems.{batch_items}
 use Rattle.job_language.specs.Jobs.{sources_of}
-use Rattle.prefix_walks.specs.Faultless.{left_by}
+use Rattle.batch_eval.specs.Faultless.{left_by}
 use Rattle.prefix_walks.specs.Pieces.{elements}
 use Rattle.job_meaning.specs.Walks.{values_of}
 use Rattle.job_plan.proofs.LentLemmas.{first_part, scanned_both, scanned_none}
-use Rattle.prefix_walks.proofs.FaultlessLemmas.{left_both}
+use Rattle.batch_eval.proofs.FaultlessLemmas.{left_both}
 use Rattle.job_plan.proofs.PartLemmas.{on_ok_map}
 use Rattle.job_routes.proofs.RouteLemmas.{no_items}
 use Rattle.job_plan.proofs.lent_part.+push_sources.Goals as goal

@@ -9,7 +9,7 @@ use Rattle.job_routes.specs.Legs.{number_after}
 use Rattle.job_plan.specs.Parts.{walk_in}
 use Rattle.trace.specs.Stages.{stages_of}
 use Rattle.trace.specs.Trace.{trace, nothing, append}
-use Rattle.prefix_walks.specs.Faultless.{AreFaultless, left_by}
+use Rattle.batch_eval.specs.Faultless.{AreFaultless, left_by}
 use Rattle.prefix_walks.specs.Pieces.{elements, piece_of}
 use Rattle.prefix_walks.specs.Scans.{scan, scan_append}
 use Rattle.job_plan.proofs.LentLemmas.{lent_stands, piece_again}

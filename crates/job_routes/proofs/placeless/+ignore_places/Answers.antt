@@ -1,7 +1,7 @@
 use Rattle.std.proofs.Common.{◌≡◌, ◌∷◌, List, take, true, refl, sym, ap, subst, ◌∙◌, rules}
 use Rattle.trace.specs.declared.stage.Stage.{Stage}
 use Rattle.trace.specs.Stages.{stage_of, stages_of}
-use Rattle.prefix_walks.specs.Faultless.{AreFaultless}
+use Rattle.batch_eval.specs.Faultless.{AreFaultless}
 use Rattle.job_language.specs.Jobs.{item}
 use Rattle.job_language.specs.Places.{stage_is_placeless}
 use Rattle.job_routes.specs.Building.{IgnorePlaces}

@@ -1,10 +1,10 @@
 use Rattle.std.proofs.Common.{◌++◌, sym, ap, ◌∙◌, arith}
 use Rattle.std.proofs.lemmas.List.{append-nil}
 use Rattle.trace.specs.Stages.{stages_of}
-use Rattle.prefix_walks.specs.Faultless.{left_by}
+use Rattle.batch_eval.specs.Faultless.{left_by}
 use Rattle.batch_eval.specs.BatchItems.{batch_items}
 use Rattle.prefix_walks.specs.Scans.{all_items}
-use Rattle.prefix_walks.proofs.FaultlessLemmas.{left_none}
+use Rattle.batch_eval.proofs.FaultlessLemmas.{left_none}
 use Rattle.prefix_walks.proofs.PieceLemmas.{lent_next}
 use Rattle.prefix_walks.proofs.prefix_pieces.add_lent.Goals as goal
 

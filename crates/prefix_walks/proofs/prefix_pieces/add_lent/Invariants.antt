@@ -1,6 +1,6 @@
 use Rattle.std.proofs.Common.{◌≡◌, ◌≤◌, ◌++◌, ◌-◌, All, take}
 use Rattle.trace.specs.Stages.{stages_of}
-use Rattle.prefix_walks.specs.Faultless.{left_by}
+use Rattle.batch_eval.specs.Faultless.{left_by}
 use Rattle.batch_eval.specs.BatchItems.{batch_items}
 use Rattle.prefix_walks.specs.Scans.{IsFolded, all_items}
 use Rattle.prefix_walks.proofs.prefix_pieces.add_lent.Given as goal

@@ -1,6 +1,6 @@
 use Rattle.std.proofs.Common.{◌≡◌, length, true, refl, sym, ap, ◌∙◌, rules}
 use Rattle.trace.specs.Stages.{stages_of}
-use Rattle.prefix_walks.specs.Faultless.{AreFaultless}
+use Rattle.batch_eval.specs.Faultless.{AreFaultless}
 use Rattle.job_routes.specs.Building.{begun_walk}
 use Rattle.job_routes.specs.Legs.{AbstractEnd, ended}
 use Rattle.job_routes.proofs.BuiltLemmas.{first_found}

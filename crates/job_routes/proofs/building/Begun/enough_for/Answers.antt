@@ -1,6 +1,6 @@
 use Rattle.std.proofs.Common.{refl}
 use Rattle.trace.specs.Stages.{stages_of}
-use Rattle.job_routes.specs.Building.{AreMaps}
+use Rattle.batch_eval.specs.Faultless.{AreMaps}
 use Rattle.job_routes.proofs.AskLemmas.{of_some}
 use Rattle.job_routes.proofs.building.Begun.enough_for.Goals as goal
 

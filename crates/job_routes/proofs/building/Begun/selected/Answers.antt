@@ -2,8 +2,8 @@ use Rattle.std.proofs.Common.{◌<◌, true, refl, sym, ap, ◌∙◌, rules}
 use Rattle.trace.specs.Stages.{pipe, stages_of}
 use Rattle.trace.specs.Trace.{Trace}
 use Rattle.slice_ops.specs.Slices.{slice_of, sliced}
-use Rattle.prefix_walks.specs.Faultless.{AreFaultless}
-use Rattle.job_routes.specs.Building.{AreMaps, IsClean}
+use Rattle.batch_eval.specs.Faultless.{AreFaultless, AreMaps}
+use Rattle.job_routes.specs.Building.{IsClean}
 use Rattle.job_meaning.specs.Walks.{source_walk}
 use Rattle.job_routes.specs.Legs.{legs_in, scanned, windowed}
 use Rattle.job_routes.proofs.BuiltLemmas.{limit_selects, skip_selects, some_map}

@@ -6,8 +6,8 @@ use Rattle.trace.specs.Sinks.{IsFed}
 use Rattle.trace.specs.Stages.{stages_of}
 use Rattle.trace.specs.Trace.{Trace}
 use Rattle.batch_eval.specs.BatchItems.{batch_items}
-use Rattle.prefix_walks.specs.Faultless.{left_by}
-use Rattle.prefix_walks.proofs.FaultlessLemmas.{all_taken}
+use Rattle.batch_eval.specs.Faultless.{left_by}
+use Rattle.batch_eval.proofs.FaultlessLemmas.{all_taken}
 use Rattle.prefix_walks.proofs.cheap_stages.CheapStages.put.Goals as goal
 
 pub returns : goal.returns

@@ -1,5 +1,5 @@
--- Condition: expressions and stages that can't have a fault.
-use Rattle.std.specs.Prelude.{◌≡◌, ◌≤◌, ℕ, ℤ, Bool, true, false, List, length, Ok, ⊤}
+-- Condition: stages that are maps, and expressions and stages that can't have a fault.
+use Rattle.std.specs.Prelude.{◌≡◌, ◌≤◌, ℕ, ℤ, Bool, true, false, List, [], ◌∷◌, length, Result, Ok, Err, ⊤}
 use Rattle.std.specs.Coded.{×_prop, Π_prop, Coded-set}
 use Rattle.std.proofs.Props.{props}
 use Rattle.lambda_values.specs.Earlier.{Numbers, nothing_named}
@@ -8,9 +8,20 @@ use Rattle.lambda_values.specs.Value.{long_value, truth_value}
 use Rattle.trace.specs.contracts.chunk.Chunk as chunks
 use Rattle.lambda_values.specs.declared.item.Item.{Item}
 use Rattle.trace.specs.declared.item.End.{End}
+use Rattle.trace.specs.declared.item.Fault.{Fault}
 use Rattle.trace.specs.declared.item.End.TheVariants as end
 use Rattle.trace.specs.Stages.{AbstractStage, pipe}
-use Rattle.trace.specs.Trace.{trace}
+use Rattle.trace.specs.Trace.{Trace, trace}
+
+-- one item, or a fault
+abbrev pub one_or : Result Item Fault → Trace
+one_or (Ok x) = trace (x ∷ []) end.Done
+one_or (Err f) = trace [] (end.Fault f)
+
+-- stages make one item, or a fault, of each item
+abbrev pub AreMaps : List AbstractStage → Type 0
+AreMaps gs = (m : ℕ) (env : Numbers) (x : Item)
+    → (r : Result Item Fault) × (pipe m gs env (trace (x ∷ []) end.Done) ≡ one_or r)
 
 -- numbers of earlier jobs that can make no difference: equal ones if lambdas may name earlier jobs, else any
 abbrev pub Agree : Bool → Numbers → Numbers → Type 0

@@ -1,14 +1,14 @@
 use Rattle.std.proofs.Common.{◌≡◌, ◌∷◌, sym, ap, subst, ◌∙◌, rules}
+use Rattle.std.proofs.lemmas.List.{nil_from_length}
 use Rattle.lambda_values.specs.Term.{long_of}
 use Rattle.trace.specs.Stages.{map, stage_of, stages_of}
-use Rattle.job_routes.specs.Building.{AreMaps}
-use Rattle.job_routes.proofs.MapLemmas.{more_maps, no_maps}
-use Rattle.job_routes.proofs.RouteLemmas.{no_items}
-use Rattle.job_routes.proofs.maps.+are_maps.Goals as goal
+use Rattle.batch_eval.specs.Faultless.{AreMaps}
+use Rattle.batch_eval.proofs.FaultlessLemmas.{more_maps, no_maps}
+use Rattle.batch_eval.proofs.faultless.+are_maps.Goals as goal
 
 pub returns-in-None : goal.returns-in-None
 returns-in-None t c = λ yes.
-    subst (λ ss. AreMaps (stages_of ss)) (sym (no_items c.args.stages.now c.in-None.ensures.cases)) no_maps
+    rw (nil_from_length c.args.stages.now c.in-None.ensures.cases) no_maps
 
 pub returns-in-Some-Map-default : goal.returns-in-Some-Map-default
 returns-in-Some-Map-default t c = λ yes.

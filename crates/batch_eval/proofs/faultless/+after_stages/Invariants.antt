@@ -1,5 +1,5 @@
 use Rattle.std.proofs.Common.{length}
-use Rattle.prefix_walks.proofs.faultless.+after_stages.Given as goal
+use Rattle.batch_eval.proofs.faultless.+after_stages.Given as goal
 
 abbrev pub decreases-after_stages : goal.decreases-after_stages
 decreases-after_stages l = length l.stages.now

@@ -1,9 +1,9 @@
 use Rattle.std.proofs.Common.{◌∷◌, [], IfSome, subst, sym}
 use Rattle.lambda_values.specs.Term.{long_of, truth_of}
 use Rattle.trace.specs.Stages.{stage_of}
-use Rattle.prefix_walks.specs.Faultless.{AreFaultless}
-use Rattle.prefix_walks.proofs.FaultlessLemmas.{filter_faultless, map_faultless, when_some}
-use Rattle.prefix_walks.proofs.faultless.after_stage.Goals as goal
+use Rattle.batch_eval.specs.Faultless.{AreFaultless}
+use Rattle.batch_eval.proofs.FaultlessLemmas.{filter_faultless, map_faultless, when_some}
+use Rattle.batch_eval.proofs.faultless.after_stage.Goals as goal
 
 pub returns-in-Map : goal.returns-in-Map
 returns-in-Map c =

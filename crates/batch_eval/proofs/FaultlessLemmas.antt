@@ -1,4 +1,4 @@
--- Expressions and stages that can't have a fault.
+-- Stages that are maps, and expressions and stages that can't have a fault.
 use Rattle.std.proofs.Common.{◌≡◌, ℕ, suc, ℤ, pos, ◌≤◌, if◌then◌else◌, Bool, true, false, not, List, [], ◌∷◌, ◌++◌}
 use Rattle.std.proofs.Common.{length, length-append, Result, Ok, Err, Option, Some, None, IfSome, refl, sym, ap, subst}
 use Rattle.std.proofs.Common.{◌∙◌, le_trans, arith, ◌++◌, OnErr}
@@ -9,8 +9,8 @@ use Rattle.lambda_values.specs.Operators.{BinaryRule, UnaryRule, always, always_
 use Rattle.lambda_values.specs.Operators.{binary_faults_by, binary_rule, binary_value, comparison_value, divided}
 use Rattle.lambda_values.specs.Operators.{exactly, exactly_one, on, unary_by, unary_faults, unary_faults_by, unary_rule}
 use Rattle.lambda_values.specs.Operators.{unary_value, unless_zero}
-use Rattle.lambda_values.specs.Term.{Long, number, reference, cell, row, unary, binary, choose, Truth, compare}
-use Rattle.lambda_values.specs.Term.{opposite, connect, choose_truth}
+use Rattle.lambda_values.specs.Term.{Long, reference, cell, row, unary, binary, choose, Truth, compare, opposite}
+use Rattle.lambda_values.specs.Term.{connect, choose_truth}
 use Rattle.lambda_values.specs.Value.{chosen, long_value, truth_value}
 use Rattle.lambda_values.specs.declared.fault.FaultKind.{FaultKind}
 use Rattle.lambda_values.specs.declared.fault.FaultKind.TheVariants.{DivideByZero}
@@ -21,11 +21,12 @@ use Rattle.lambda_values.specs.declared.operator.Connective.TheVariants as conne
 use Rattle.lambda_values.specs.declared.operator.Faults.TheVariants as faults
 use Rattle.lambda_values.specs.declared.operator.UnaryOperator.{UnaryOperator}
 use Rattle.trace.specs.Stages.{AbstractStage, map, filter, image, of_item, passed, pipe, through}
-use Rattle.trace.specs.Trace.{Trace, trace, append}
+use Rattle.trace.specs.Trace.{Trace, trace, append, nothing}
 use Rattle.lambda_values.specs.declared.item.Item.{Item}
 use Rattle.trace.specs.declared.item.End.{End}
+use Rattle.trace.specs.declared.item.Fault.{Fault}
 use Rattle.trace.specs.declared.item.End.TheVariants as end
-use Rattle.prefix_walks.specs.Faultless.{Agree, AreFaultless, HasTruths, HasValues, left_with, left_by}
+use Rattle.batch_eval.specs.Faultless.{Agree, AreFaultless, AreMaps, HasTruths, HasValues, left_with, left_by, one_or}
 use Rattle.std.specs.declared.alloc.AllocError.{AllocError}
 use Rattle.trace.specs.Sinks.{IsFed, flow_after}
 use Rattle.trace.specs.declared.feeding.Fed.{Fed}
@@ -40,6 +41,19 @@ when_some (Some a) f h = f h
 pub when_there : {A P : Type 0} (o : Option A) → is_some o ≡ true → IfSome o (λ _. P) → P
 when_there None there h = absurd cc
 when_there (Some a) there h = h
+
+-- ---- maps
+
+pub no_maps : AreMaps []
+no_maps m env x = (Ok x, refl)
+
+pub more_maps : (e : Long) (gs : List AbstractStage) → AreMaps gs → AreMaps (map e ∷ gs)
+more_maps e gs h m env x = by (long_value e x env)
+  where
+    by : (r : Result ℤ FaultKind) → (made : Result Item Fault)
+        × (pipe (suc m) gs env (append (image m x r) nothing) ≡ one_or made)
+    by (Ok v) = h (suc m) env (record { origin = x.origin; value = v })
+    by (Err k) = (Err _, pipe_ended (suc m) gs env _)
 
 -- ---- operators
 
@@ -74,13 +88,15 @@ divided_there o zero v w some = by (binary_rule o) zero
     by (unless_zero f) h = divides _
     by (exactly f) h = absurd cc
 
-pub divisor_value : (b : Long) (x : Item) (env : Numbers) (w : ℤ)
-    → ((z : ℤ) × (b ≡ number z) × (int_eq z (pos 0) ≡ false)) → long_value b x env ≡ Ok w → int_eq w (pos 0) ≡ false
-divisor_value b x env w (z, e, some) is =
-    subst (λ (y : ℤ). int_eq y (pos 0) ≡ false) (same (sym (ap (λ (a : Long). long_value a x env) e) ∙ is)) some
+pub divisor_value : (b : Long) (x : Item) (env : Numbers) (z w : ℤ) → int_eq z (pos 0) ≡ false
+    → long_value b x env ≡ Ok z → long_value b x env ≡ Ok w → int_eq w (pos 0) ≡ false
+divisor_value b x env z w some is also = subst (λ (y : ℤ). int_eq y (pos 0) ≡ false) (one (sym is ∙ also)) some
   where
-    same : long_value (number z) x env ≡ Ok w → z ≡ w
-    same h = cc
+    made : ℤ → Result ℤ FaultKind
+    made y = Ok y
+
+    one : made z ≡ Ok w → z ≡ w
+    one h = cc
 
 -- ---- expressions and tests
 

@@ -1,7 +1,7 @@
 use Rattle.std.proofs.Common.{◌≡◌, ◌∷◌, rules}
 use Rattle.trace.specs.Stages.{stage_of, stages_of}
-use Rattle.prefix_walks.proofs.FaultlessLemmas.{more_faultless, when_some}
-use Rattle.prefix_walks.proofs.faultless.+after_stages.Goals as goal
+use Rattle.batch_eval.proofs.FaultlessLemmas.{more_faultless, when_some}
+use Rattle.batch_eval.proofs.faultless.+after_stages.Goals as goal
 
 pub returns-in_ok-left-in-Some : goal.returns-in_ok-left-in-Some
 returns-in_ok-left-in-Some t c =

@@ -1,23 +1,11 @@
-//! Which stages are maps, which a slice that selects positions may come after, and which make an item into many.
+//! Which stages make an item into many.
 
-ghost use Rattle.std.specs.Prelude.{◌≡◌, IsTrue};
+ghost use Rattle.std.specs.Prelude.{◌≡◌};
 ghost use Rattle.trace.specs.Stages.{stages_of};
-ghost use Rattle.job_routes.specs.Building.{AreMaps};
 ghost use Rattle.job_routes.specs.Legs.{makes_many};
 
 use lambda_values::InnerExpr;
 use trace::Stage;
-
-/// Whether all of these stages are maps.
-pub fn are_maps(stages: &[Stage]) -> bool
-    ensures { IsTrue result → AreMaps (stages_of stages.now) }
-{
-    match stages.split_first() {
-        None => true,
-        Some((Stage::Map(_), later)) => are_maps(later),
-        Some((Stage::Filter(_) | Stage::FlatMap(_), _)) => false,
-    }
-}
 
 /// Whether these stages may make an item into many: into a range, or into lists of at most 64 values by more than this
 /// number of `flatMap`s.
