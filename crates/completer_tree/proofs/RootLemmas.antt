@@ -155,6 +155,7 @@ module _ {S T : Type 0} {nodes actor n : ℕ} (node : ℕ) (onward : List ℕ) (
     pub fork_knows : KnowsTop at onward p v0 w
     fork_knows = record {
       root = root_is ∙ ap (λ k. root_of at k) (sym where_is);
+      inner = let k = node_is in let at_node = where_is in omega arith;
       above = λ i given e. let l = claim.unnoted i given e in let k = node_is in let at_node = where_is in omega arith;
       noted = λ given e. ap (λ k. note_of k w.noted) root_is ∙ ap (λ l. note_of (root_of at node) l) (noted ∙ noted_is)
           ∙ root_known at leads given onward v0.noted e;

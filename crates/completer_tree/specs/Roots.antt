@@ -39,6 +39,7 @@ module _ {T : Type 0} where
   -- what a seat has noted of the top of the tree that was forked at this place, which is now at the other place
   pub record KnowsTop (at : Option (Place T)) (onward : List ℕ) (p : Place T) (v w : View T) : Type 0 where
     pub root : p.root ≡ root_of at p.node
+    pub inner : 0 < p.node
     pub above : (i : ℕ) (given : List ℕ) → note_of i v.noted ≡ Some given → i < p.node
     pub noted : (given : List ℕ) → root_note at onward v.noted ≡ Some given → note_of p.root w.noted ≡ Some given
     pub noted_sides : (given : List ℕ) → root_note at (sides_of onward v.sides) v.noted_sides ≡ Some given

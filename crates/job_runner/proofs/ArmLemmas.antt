@@ -17,8 +17,8 @@ use Rattle.completer_tree.specs.Roots.{Rooted}
 use Rattle.job_runner.specs.declared.start.Start.{Start}
 use Rattle.job_runner.specs.declared.start.Waiting.{Waiting}
 use Rattle.job_runner.specs.Waits.{nodes_in}
-use Rattle.job_runner.specs.Tasks.{HasStarts, all_waiting, start_nodes, node_at, kept_at, nodes_below, KnowsStarts}
-use Rattle.job_runner.specs.Tasks.{CanArrive}
+use Rattle.job_runner.specs.Tasks.{HasStarts, all_waiting, start_nodes, node_at, kept_at, nodes_below, KnowsStart}
+use Rattle.job_runner.specs.Tasks.{KnowsStarts, CanArrive}
 use Rattle.atomic_table.specs.Seated.{TableId}
 use Rattle.pending_count.specs.declared.place.Fits.{Ghosts}
 use Rattle.pending_count.specs.declared.seat.Seat.{Seat}
@@ -56,6 +56,10 @@ all_set i (x ∷ xs) (suc k) v w low e =
 pub nodes_snoc : (ws : List Waiting) (w : Waiting) → nodes_in (ws ++ w ∷ []) ≡ nodes_in ws ++ w.node ∷ []
 nodes_snoc [] w = refl
 nodes_snoc (x ∷ ws) w = ap (λ l. x.node ∷ l) (nodes_snoc ws w)
+
+none_in : (ws : List Waiting) → length ws ≡ 0 → nodes_in ws ≡ []
+none_in [] e = refl
+none_in (w ∷ ws) e = absurd (omega arith)
 
 -- one more start node
 starts_snoc : (i : ℕ) (ss : List Start) (s : Start)
@@ -103,6 +107,19 @@ below : (n nodes : ℕ) → n < nodes → nat_lt n nodes ≡ true
 below n nodes h = grind (arith, common_steps)
 
 module _ {T : Type 0} where
+  -- who has noted no less knows of a start node what was known
+  pub start_by : (node : ℕ) (keeps : List ℕ) (v w : View T) → KnowsStart node keeps v
+      → ((l : List ℕ) → note_of node v.noted ≡ Some l → note_of node w.noted ≡ Some l)
+      → ((l : List ℕ) → note_of node v.noted_sides ≡ Some l → note_of node w.noted_sides ≡ Some l)
+      → KnowsStart node keeps w
+  start_by node keeps v w h noted noted_sides = record {
+    lone = h.lone;
+    noted = λ on. noted keeps (h.noted on);
+    noted_sides = λ on. noted_sides [] (h.noted_sides on);
+    smaller = h.smaller;
+    ends = h.ends;
+  }
+
   pub record Claimed (nodes node : ℕ) (v w : View T) : Type 0 where
     pub held : w.held ≡ v.held
     pub sides : w.sides ≡ v.sides
@@ -164,6 +181,9 @@ module _ {T : Type 0} where
     no_side : (k : ℕ) → count k v1.sides ≡ 0
     no_side k = ap (count k) claim.sides ∙ has.no_side k
 
+    end_kept : 0 < count 0 onward
+    end_kept = let c = onward_count 0 in let o = at_here 0 in omega arith
+
     module _ {S : Type 0} {actor pending : ℕ} (s : Start) (later : List ℕ) (v2 : View T) (named : s.node ≡ node)
         (keeps : s.onward.items ≡ onward) (told : IsArmed S nodes actor node pending onward v1 v2)
         (more : (i : ℕ) → count i later ≤ count i (copies pending node) + count i taken) where
@@ -196,20 +216,53 @@ module _ {T : Type 0} where
         no_side = arm_sides node pending onward told no_side;
         rooted = subst (λ l. Rooted l) (sym (ap (λ (u : View T). u.places) told.view ∙ claim.places)) has.rooted;
         unplaced = ap (λ (u : View T). length u.places) told.view ∙ ap length claim.places ∙ has.unplaced;
-        noted = by_last (λ n l. note_of n v2.noted ≡ Some l) ss s
-            (λ k low. let e = has.noted k low in
-            arm_note_else node pending onward told (node_at ss k) (other (node_at ss k) (kept_at ss k) e)
+        known = by_last (λ n l. KnowsStart n l v2) ss s
+            (λ k low. start_by (node_at ss k) (kept_at ss k) v v2 (has.known k low)
+            (λ l e. arm_note_else node pending onward told (node_at ss k) (other (node_at ss k) l e)
             ∙ ap (note_of (node_at ss k)) claim.noted ∙ e)
-            (ap (λ n. note_of n v2.noted) named ∙ arm_note node pending onward told ∙ ap Some (sym keeps));
-        noted_sides = by_last (λ n l. note_of n v2.noted_sides ≡ Some []) ss s
-            (λ k low. let e = has.noted_sides k low in
-            arm_side_note_else node pending onward told (node_at ss k) (other_side (node_at ss k) [] e)
-            ∙ ap (note_of (node_at ss k)) claim.noted_sides ∙ e)
-            (ap (λ n. note_of n v2.noted_sides) named ∙ arm_side_note node pending onward told no_side);
-        smaller = λ k i. by_last (λ n l. 0 < count i l → i < n) ss s (λ j low there. has.smaller j i low there)
-            (λ there. subst (λ n. i < n) (sym named) (arm_smaller i (subst (λ l. 0 < count i l) keeps there))) k;
-        ends = by_last (λ n l. 0 < count 0 l) ss s has.ends
-            (subst (λ l. 0 < count 0 l) (sym keeps) (let c = onward_count 0 in let o = at_here 0 in omega arith));
+            (λ l e. arm_side_note_else node pending onward told (node_at ss k) (other_side (node_at ss k) l e)
+            ∙ ap (note_of (node_at ss k)) claim.noted_sides ∙ e))
+            (record {
+              lone = λ z. let p = arm_smaller 0 end_kept in absurd (omega arith);
+              noted = λ on. ap (λ n. note_of n v2.noted) named ∙ arm_note node pending onward told
+                  ∙ ap Some (sym keeps);
+              noted_sides = λ on. ap (λ n. note_of n v2.noted_sides) named
+                  ∙ arm_side_note node pending onward told no_side;
+              smaller = λ on i there. subst (λ n. i < n) (sym named)
+                  (arm_smaller i (subst (λ l. 0 < count i l) keeps there));
+              ends = subst (λ l. 0 < count 0 l) (sym keeps) end_kept;
+            });
+      }
+
+  -- a job that names none, and for which none waits, has END for its start node
+  pub lone_starts : (job names : ℕ) (ss : List Start) (all taken later : List ℕ) (ws : List Waiting) (s : Start)
+      (v : View T) → HasStarts (job + 1) ss all v
+      → ((i : ℕ) → count i taken + count i (nodes_in ws) ≡ count i all) → names ≡ 0 → length ws ≡ 0
+      → ((i : ℕ) → count i later ≤ count i (copies names 0) + count i taken) → s.node ≡ 0
+      → s.onward.items ≡ nodes_in ws ++ 0 ∷ [] → HasStarts job (ss ++ s ∷ []) later v
+  lone_starts job names ss all taken later ws s v has took none_named none_waits more named keeps =
+      let kept : s.onward.items ≡ 0 ∷ [] = keeps ∙ ap (λ l. l ++ 0 ∷ []) (none_in ws none_waits) in
+      record {
+        held = λ i.
+            let a = has.held i in
+            let b = took i in
+            let c : count i (copies names 0) ≡ 0 = ap (λ k. count i (copies k 0)) none_named in
+            let h = more i in
+            let n = starts_snoc i ss s in
+            let o : one_at i s.node ≡ one_at i 0 = ap (one_at i) named in
+            let d : count i (copies (job + 1) 0) ≡ one_at i 0 + count i (copies job 0) =
+            ap (λ k. count i (copies k 0)) (let e : job + 1 ≡ suc job = omega arith in e) in
+            omega arith;
+        no_side = has.no_side;
+        rooted = has.rooted;
+        unplaced = has.unplaced;
+        known = by_last (λ n l. KnowsStart n l v) ss s has.known (record {
+          lone = λ _. kept;
+          noted = λ on. absurd (omega arith);
+          noted_sides = λ on. absurd (omega arith);
+          smaller = λ on i there. absurd (omega arith);
+          ends = subst (λ l. 0 < count 0 l) (sym kept) (let o = at_here 0 in omega arith);
+        });
       }
 
   -- a seat that armed all start nodes knows them
@@ -218,14 +271,12 @@ module _ {T : Type 0} where
       → (start j ≡ node_at ss (jobs - 1 - j)) × (keeps j ≡ kept_at ss (jobs - 1 - j))) → HasStarts left ss all v
       → KnowsStarts jobs start keeps v
   starts_known jobs start keeps left ss all v count_is is h =
-      let at : (j : ℕ) → j < jobs → jobs - 1 - j < length ss = λ j low. omega arith in
       record {
-        smaller = λ j i low there. let e = is j in
-            subst (λ n. i < n) (sym e.0) (h.smaller (jobs - 1 - j) i (at j low) (subst (λ l. 0 < count i l) e.1 there));
-        ends = λ j low. subst (λ l. 0 < count 0 l) (sym (is j).1) (h.ends (jobs - 1 - j) (at j low));
-        noted = λ j low. ap (λ n. note_of n v.noted) (is j).0 ∙ h.noted (jobs - 1 - j) (at j low)
-            ∙ ap Some (sym (is j).1);
-        noted_sides = λ j low. ap (λ n. note_of n v.noted_sides) (is j).0 ∙ h.noted_sides (jobs - 1 - j) (at j low);
+        known = λ j low.
+            let e = is j in
+            let k = h.known (jobs - 1 - j) (omega arith) in
+            subst (λ n. KnowsStart n (keeps j) v) (sym e.0)
+            (subst (λ l. KnowsStart (node_at ss (jobs - 1 - j)) l v) (sym e.1) k);
         plain = λ j i low there. (h.no_side (left_slot i), h.no_side (right_slot i));
         rooted = h.rooted;
       }
@@ -254,18 +305,16 @@ start_got (x ∷ ss) (suc k) s low e = start_got ss k s (omega arith) e
 
 module _ {V K T : Type 0} {g : Ghosts K V T} {id : TableId} {jobs : ℕ} {start : ℕ → ℕ} {keeps : ℕ → List ℕ} where
   -- who can arrive at a start node can do so along the path of that node alone
-  pub start_path : (job node : ℕ) (seat : Seat V K T g) → job < jobs → node ≡ start job
+  pub start_path : (job node : ℕ) (seat : Seat V K T g) → 0 < node → node ≡ start job
       → CanArrive id jobs start keeps job seat → IsPath (node ∷ []) (view_of seat)
-  start_path job node seat low is can =
-      let starts = can.knows in
-      let some : 0 < start job = starts.smaller job 0 low (starts.ends job low) in (
-        subst (λ k. 0 < count k (view_of seat).held) (sym is) can.held,
-        (λ k there.
-            let same : k ≡ node = dite (ℕ_discrete k node) (λ e. e)
-            (λ n. let o = at_else k node (λ e. n (sym e)) in absurd (omega arith)) in
-            (omega arith, (can.no_side (left_slot k), can.no_side (right_slot k)))),
-        tt,
-      )
+  start_path job node seat some is can = (
+    subst (λ k. 0 < count k (view_of seat).held) (sym is) can.held,
+    (λ k there.
+        let same : k ≡ node = dite (ℕ_discrete k node) (λ e. e)
+        (λ n. let o = at_else k node (λ e. n (sym e)) in absurd (omega arith)) in
+        (omega arith, (can.no_side (left_slot k), can.no_side (right_slot k)))),
+    tt,
+  )
 
 -- along a path of this kind the arrival was the last, if any node was finished
 pub last_along : {T S : Type 0} {nodes actor : ℕ} (node finished : ℕ) (v w : View T)

@@ -20,7 +20,8 @@ use Rattle.pending_count.proofs.RecordLemmas.{fresh-count, fresh_here}
 use Rattle.pending_count.proofs.CallerLemmas.{last_held, last_sides, last_noted, last_side_notes}
 use Rattle.completer_tree.specs.Roots as tree
 use Rattle.completer_tree.specs.Trees.{CanKeep, CanHand, IsUnchanged}
-use Rattle.job_runner.specs.Tasks.{KnowsStarts, KnowsTop, HasKept, CanArrive, nodes_below}
+use Rattle.job_runner.specs.Tasks.{KnowsStart, KnowsStarts, KnowsTop, HasKept, CanArrive, nodes_below}
+use Rattle.job_runner.proofs.ArmLemmas.{start_by}
 use Rattle.job_runner.specs.Waits.{nodes_in}
 use Rattle.job_runner.specs.declared.start.Waiting.{Waiting}
 use Rattle.completer_tree.specs.Roots.{Rooted}
@@ -42,15 +43,24 @@ plain_sides (i ∷ is) sides plain =
     ap (λ l. l ++ sides_of is sides) (plain_side i sides here.0 here.1)
     ∙ plain_sides is sides (λ j h. plain j (omega arith))
 
+module _ {T : Type 0} where
+  -- what a start node keeps is below each node above all that were noted
+  kept_below : (node i p : ℕ) (kept : List ℕ) (v : View T) → KnowsStart node kept v → 0 < count i kept → 0 < p
+      → ((l : List ℕ) → note_of node v.noted ≡ Some l → node < p) → i < p
+  kept_below node i p kept v h there some above = dite (ℕ_discrete node 0)
+      (λ z. let e : count i kept ≡ one_at i 0 + 0 = ap (count i) (h.lone z) in
+      dite (ℕ_discrete i 0) (λ y. omega arith)
+      (λ n. let o = at_else i 0 (λ y. n (sym y)) in absurd (omega arith)))
+      (λ n. let on : 0 < node = omega arith in let a = h.smaller on i there in let b = above kept (h.noted on) in
+      omega arith)
+
 module _ {T : Type 0} {jobs : ℕ} {start : ℕ → ℕ} {keeps : ℕ → List ℕ} where
   -- a seat with equal notes, and no more sides, knows what this one knows
   pub known_as : (v w : View T) → KnowsStarts jobs start keeps v → w.noted ≡ v.noted → w.noted_sides ≡ v.noted_sides
       → w.places ≡ v.places → ((k : ℕ) → count k w.sides ≤ count k v.sides) → KnowsStarts jobs start keeps w
   known_as v w h noted noted_sides places few = record {
-    smaller = h.smaller;
-    ends = h.ends;
-    noted = λ job low. ap (note_of (start job)) noted ∙ h.noted job low;
-    noted_sides = λ job low. ap (note_of (start job)) noted_sides ∙ h.noted_sides job low;
+    known = λ job low. start_by (start job) (keeps job) v w (h.known job low)
+        (λ l e. ap (note_of (start job)) noted ∙ e) (λ l e. ap (note_of (start job)) noted_sides ∙ e);
     plain = λ job i low there. let p = h.plain job i low there in let a = few (left_slot i) in
         let b = few (right_slot i) in let pa = p.0 in let pb = p.1 in (omega arith, omega arith);
     rooted = subst (λ l. tree.Rooted l) (sym places) h.rooted;
@@ -61,18 +71,16 @@ module _ {T : Type 0} {jobs : ℕ} {start : ℕ → ℕ} {keeps : ℕ → List �
       → KnowsStarts jobs start keeps v → tree.KnowsTop at onward p v w → tree.Rooted w.places
       → KnowsStarts jobs start keeps w
   known_forked at onward p v w h k rooted = record {
-    smaller = h.smaller;
-    ends = h.ends;
-    noted = λ job low. k.still_noted (start job) (keeps job) (h.noted job low);
-    noted_sides = λ job low. k.still_noted_sides (start job) [] (h.noted_sides job low);
+    known = λ job low. start_by (start job) (keeps job) v w (h.known job low) (k.still_noted (start job))
+        (k.still_noted_sides (start job));
     plain = λ job i low there.
         let q = h.plain job i low there in
         let qa = q.0 in
         let qb = q.1 in
         let a = k.only_own (left_slot i) in
         let b = k.only_own (right_slot i) in
-        let lower = h.smaller job i low there in
-        let above = k.above (start job) (keeps job) (h.noted job low) in
+        let lower = kept_below (start job) i p.node (keeps job) v (h.known job low) there k.inner
+        (k.above (start job)) in
         let ll = at_else (left_slot i) (left_slot p.node) (λ e. absurd (omega arith)) in
         let lr = at_else (left_slot i) (right_slot p.node) (λ e. absurd (omega arith)) in
         let rl = at_else (right_slot i) (left_slot p.node) (λ e. absurd (omega arith)) in
@@ -162,17 +170,37 @@ module _ {V K T : Type 0} {g : Ghosts K V T} {id : TableId} {jobs : ℕ} {start 
     one_side = λ i there. let p = h.plain_at i there in let a = p.0 in let b = p.1 in omega arith;
   })
 
+  -- who can arrive at END has what a job without a start node has
+  pub lone_kept : (job : ℕ) (seat : Seat V K T g) → job < jobs → start job ≡ 0
+      → CanArrive id jobs start keeps job seat → HasKept id jobs start keeps (keeps job) seat
+  lone_kept job seat low z can =
+      let lone = (can.knows.known job low).lone z in
+      let end : 0 < count 0 (view_of seat).held = subst (λ k. 0 < count k (view_of seat).held) z can.held in
+      record {
+        table = can.table;
+        held = λ i.
+            let e : count i (keeps job) ≡ one_at i 0 + 0 = ap (count i) lone in
+            dite (ℕ_discrete i 0)
+            (λ y. subst (λ j. count j (keeps job) ≤ count j (view_of seat).held) (sym y)
+            (let f : count 0 (keeps job) ≡ one_at 0 0 + 0 = ap (count 0) lone in let o = at_here 0 in omega arith))
+            (λ n. let o = at_else i 0 (λ y. n (sym y)) in omega arith);
+        plain_at = λ i there. (can.no_side (left_slot i), can.no_side (right_slot i));
+        knows = can.knows;
+      }
+
   -- who made the last arrival at a start node has what it kept
   pub arrived_kept : {S : Type 0} {nodes actor : ℕ} (job node n : ℕ) (seat later : Seat V K T g) → job < jobs
-      → node ≡ start job → CanArrive id jobs start keeps job seat → table_of later ≡ id → n ≡ 1
+      → 0 < node → node ≡ start job → CanArrive id jobs start keeps job seat → table_of later ≡ id → n ≡ 1
       → IsArrived S nodes actor node (view_of seat) n (view_of later)
       → HasKept id jobs start keeps (keeps job) later
-  arrived_kept job node n seat later low is can table one told =
+  arrived_kept job node n seat later low some is can table one told =
+      let known = can.knows.known job low in
+      let on : 0 < start job = subst (λ k. 0 < k) is some in
       let have : 0 < count node (view_of seat).held = subst (λ k. 0 < count k (view_of seat).held) (sym is) can.held in
       let note : note_of node (view_of seat).noted ≡ Some (keeps job) =
-      ap (λ k. note_of k (view_of seat).noted) is ∙ can.knows.noted job low in
+      ap (λ k. note_of k (view_of seat).noted) is ∙ known.noted on in
       let side_note : note_of node (view_of seat).noted_sides ≡ Some [] =
-      ap (λ k. note_of k (view_of seat).noted_sides) is ∙ can.knows.noted_sides job low in
+      ap (λ k. note_of k (view_of seat).noted_sides) is ∙ known.noted_sides on in
       let sides = last_sides node n told have one side_note can.no_side in
       record {
         table = table;
@@ -337,12 +365,11 @@ module _ {V K T : Type 0} {g : Ghosts K V T} {id : TableId} {jobs : ℕ} {start 
             omega arith;
         plain_at = λ i there. let p = h.plain_at i there in (sides (left_slot i) ∙ p.0, sides (right_slot i) ∙ p.1);
         knows = record {
-          smaller = h.knows.smaller;
-          ends = h.knows.ends;
-          noted = λ job low. ap (λ (w : View T). note_of (start job) w.noted) is
-              ∙ first_note (start job) (keeps job) v.noted u.noted (h.knows.noted job low);
-          noted_sides = λ job low. ap (λ (w : View T). note_of (start job) w.noted_sides) is
-              ∙ first_note (start job) [] v.noted_sides u.noted_sides (h.knows.noted_sides job low);
+          known = λ job low. start_by (start job) (keeps job) v (view_of later) (h.knows.known job low)
+              (λ l e. ap (λ (w : View T). note_of (start job) w.noted) is
+              ∙ first_note (start job) l v.noted u.noted e)
+              (λ l e. ap (λ (w : View T). note_of (start job) w.noted_sides) is
+              ∙ first_note (start job) l v.noted_sides u.noted_sides e);
           plain = λ job i low there. let p = h.knows.plain job i low there in
               (sides (left_slot i) ∙ p.0, sides (right_slot i) ∙ p.1);
           rooted = subst (λ l. Rooted l) (sym placed) h.knows.rooted;

@@ -40,26 +40,28 @@ nodes_below start zero = []
 nodes_below start (suc n) = start n ∷ nodes_below start n
 
 module _ {T : Type 0} where
+  -- The seat has noted what this start node keeps: arrivals at smaller nodes, one of them at END. A job that needs no
+  -- start node has END itself, where its arrival stays.
+  pub record KnowsStart (node : ℕ) (keeps : List ℕ) (v : View T) : Type 0 where
+    pub lone : node ≡ 0 → keeps ≡ 0 ∷ []
+    pub noted : 0 < node → note_of node v.noted ≡ Some keeps
+    pub noted_sides : 0 < node → note_of node v.noted_sides ≡ Some []
+    pub smaller : 0 < node → (i : ℕ) → 0 < count i keeps → i < node
+    pub ends : 0 < count 0 keeps
+
   -- The seat has one arrival at each of these start nodes, those for the jobs that wait, and one at END for each job
-  -- that has no start node yet. It has noted what these start nodes keep: arrivals at smaller nodes, one of them at
-  -- END. It has noted no place of a tree.
+  -- that has no start node yet. It has noted what these start nodes keep, and no place of a tree.
   pub record HasStarts (left : ℕ) (starts : List Start) (waiting : List ℕ) (v : View T) : Type 0 where
     pub held : (i : ℕ) → count i (start_nodes starts) + count i waiting + count i (copies left 0) ≤ count i v.held
     pub no_side : (k : ℕ) → count k v.sides ≡ 0
     pub rooted : Rooted v.places
     pub unplaced : length v.places ≡ 0
-    pub noted : (k : ℕ) → k < length starts → note_of (node_at starts k) v.noted ≡ Some (kept_at starts k)
-    pub noted_sides : (k : ℕ) → k < length starts → note_of (node_at starts k) v.noted_sides ≡ Some []
-    pub smaller : (k i : ℕ) → k < length starts → 0 < count i (kept_at starts k) → i < node_at starts k
-    pub ends : (k : ℕ) → k < length starts → 0 < count 0 (kept_at starts k)
+    pub known : (k : ℕ) → k < length starts → KnowsStart (node_at starts k) (kept_at starts k) v
 
-  -- The seat has noted what the start nodes of the first jobs keep: arrivals at smaller nodes, one of them at END. It
-  -- has no side of a pair at a node at which they keep an arrival.
+  -- The seat has noted what the start nodes of the first jobs keep. It has no side of a pair at a node at which they
+  -- keep an arrival.
   pub record KnowsStarts (jobs : ℕ) (start : ℕ → ℕ) (keeps : ℕ → List ℕ) (v : View T) : Type 0 where
-    pub smaller : (job i : ℕ) → job < jobs → 0 < count i (keeps job) → i < start job
-    pub ends : (job : ℕ) → job < jobs → 0 < count 0 (keeps job)
-    pub noted : (job : ℕ) → job < jobs → note_of (start job) v.noted ≡ Some (keeps job)
-    pub noted_sides : (job : ℕ) → job < jobs → note_of (start job) v.noted_sides ≡ Some []
+    pub known : (job : ℕ) → job < jobs → KnowsStart (start job) (keeps job) v
     pub plain : (job i : ℕ) → job < jobs → 0 < count i (keeps job) → IsPlainAt i v
     pub rooted : Rooted v.places
 

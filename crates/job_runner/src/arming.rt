@@ -1,5 +1,5 @@
 //! How the start nodes of all jobs are claimed and armed.
-ghost use Rattle.std.specs.Prelude.{◌≡◌, ◌+◌, ◌-◌, ◌<◌, ◌≤◌, ◌++◌, ◌∷◌, [], ℕ, length, IfOk, IfSome, OnOk};
+ghost use Rattle.std.specs.Prelude.{◌≡◌, ◌+◌, ◌-◌, ◌<◌, ◌≤◌, ◌++◌, ◌∷◌, [], ℕ, length, true, IfOk, IfSome, OnOk};
 ghost use Rattle.completion_core.specs.Graph.{copies};
 ghost use Rattle.completion_core.specs.Legal.{count};
 ghost use Rattle.pending_count.specs.Views.{first_view};
@@ -95,7 +95,15 @@ fn add_start(armed: &mut Armed, start: Start, names: &[usize], job: usize) -> Re
     Ok(())
 }
 
+/// Whether a job that names these ones, and for which these wait, needs no start node.
+fn is_lone(names: &[usize], waiting: &[Waiting]) -> bool
+    ensures { result ≡ true → (length names.now ≡ 0) × (length waiting.now ≡ 0) }
+{
+    names.is_empty() && waiting.is_empty()
+}
+
 /// Claims and arms the start node of the last job that has none, which names these ones. `None` if there is no node.
+/// A lone job has END for its start node.
 fn arm_one<V, K: Fits<V, Tag = CutPiece>>(
     alloc: Global,
     counts: &Counts<V, K>,
@@ -117,6 +125,15 @@ fn arm_one<V, K: Fits<V, Tag = CutPiece>>(
     };
     let waiting = take_waiting(alloc, &mut armed.waiting, job);
     let onward = onward_of(alloc, &waiting)?;
+    if is_lone(names, &waiting) {
+        let start = Start {
+            node: END,
+            onward,
+            waiting,
+        };
+        add_start(armed, start, names, job)?;
+        return Ok(Some(seat));
+    }
     let (seat, drawn) = counts.claim(seat);
     let Some(node) = drawn else {
         return Ok(None);

@@ -1,9 +1,10 @@
 //! Jobs on workers, leg by leg, over one table of counts, whatever the jobs are.
 //!
 //! `run_all` works out the jobs of a type that implements `JobLegs`, which says how many jobs there are, how a piece of
-//! a leg is walked, how two parts are merged, and what comes of a whole leg. Each job has a start node. A piece longer
-//! than `longest_piece` says is cut in two if a node can be claimed; parts climb in trees of completers. Whoever gets
-//! the part of a whole leg leaves its outcome in a `OnceLock`, and begins the next leg or settles the job.
+//! a leg is walked, how two parts are merged, and what comes of a whole leg. A job that names another one, or is named,
+//! has a start node. A piece longer than `longest_piece` says is cut in two if a node can be claimed; parts climb in
+//! trees of completers. Whoever gets the part of a whole leg leaves its outcome in a `OnceLock`, and begins the next
+//! leg or settles the job.
 //!
 //! Stands on `completer_tree`, `worker_pool` and `early_stop`, and on `run_settings` for what a run may use. Used by
 //! `job_table`, whose jobs are the jobs of a plan.

@@ -1,9 +1,11 @@
 //! How many nodes a run can use.
-ghost use Rattle.std.specs.Prelude.{◌≡◌, ◌+◌, ◌-◌, ◌^◌, ◌<◌, ◌≤◌, false, min, ℕ};
+ghost use Rattle.std.specs.Prelude.{◌≡◌, ◌+◌, ◌-◌, ◌^◌, ◌<◌, ◌≤◌, false, ℕ, IfOk};
 ghost use Rattle.run_settings.specs.SettingsParts.{is_adaptive, nodes_of, threshold_of};
 
+use crate::NoMemory;
 use crate::legs::JobLegs;
 use run_settings::Settings;
+use std::alloc::Global;
 
 /// How many pieces a leg is cut into for each worker, if its positions, the threshold and the nodes are enough. While
 /// the last pieces are walked some workers have nothing left, so there are many; each costs a node, so there aren't
@@ -166,17 +168,46 @@ pub(crate) fn most_positions<S: JobLegs>(jobs: &S, settings: Settings) -> u64
     longest
 }
 
-/// One start node for each job, and no more nodes for cuts than the settings allow and the jobs can use, if pieces
-/// longer than `longest` are cut; 2^32 - 1 at most. A later leg may have more positions than the first one, as
-/// `flatMap` makes them, and how many isn't known before it begins.
-pub(crate) fn node_count<S: JobLegs>(jobs: &S, settings: Settings, longest: u64) -> u32
-    requires some { 0 < longest }
-    ensures starts { min S.run.jobs (2 ^ 32 - 1) ≤ result }
-    ensures few { result ≤ S.run.jobs + nodes_of settings }
+/// How many jobs have start nodes: those that name others, and those that others name.
+fn start_count<S: JobLegs>(alloc: Global, jobs: &S) -> Result<u64, NoMemory>
+    ensures { IfOk result (λ count. count ≤ S.run.jobs) }
 {
+    let count = jobs.jobs();
+    let mut needs = Vec::from_elem(alloc, false, count)?;
+    for job in 0..count {
+        let names = jobs.names(alloc, job)?;
+        for named in names.iter() {
+            mark(&mut needs, *named);
+            mark(&mut needs, job);
+        }
+    }
+    let starts = needs.iter().filter(|is_marked| **is_marked).count();
+    Ok(starts.min(count) as u64)
+}
+
+/// Marks the one at this place, if there is one.
+fn mark(marks: &mut [bool], place: usize) {
+    if let Some(is_marked) = marks.get_mut(place) {
+        *is_marked = true;
+    }
+}
+
+/// The start nodes, and no more nodes for cuts than the settings allow and the jobs can use, if pieces longer than
+/// `longest` are cut; 2^32 - 1 at most. A later leg may have more positions than the first one, as `flatMap` makes
+/// them, and how many isn't known before it begins.
+pub(crate) fn node_count<S: JobLegs>(
+    alloc: Global,
+    jobs: &S,
+    settings: Settings,
+    longest: u64,
+) -> Result<u32, NoMemory>
+    requires some { 0 < longest }
+    ensures few { IfOk result (λ nodes. nodes ≤ S.run.jobs + nodes_of settings) }
+{
+    let starts = start_count(alloc, jobs)?;
     let all = cuts_of_all(jobs, settings, 0, 0, longest)
         .max(cuts_of_all(jobs, settings, 1, u64::MAX, longest))
         .min(settings.nodes())
-        .saturating_add(jobs.jobs() as u64);
-    all.min(u64::from(u32::MAX)) as u32
+        .saturating_add(starts);
+    Ok(all.min(u64::from(u32::MAX)) as u32)
 }

@@ -53,7 +53,7 @@ impl<S: JobLegs> FreshCounts<S, TablePart<S>, TableKept<S>> {
         ensures { IfOk result (λ o. IfSome o (λ opened. length opened.starts.items ≡ S.run.jobs)) }
     {
         let longest = most_positions(jobs, settings);
-        let nodes = node_count(jobs, settings, longest);
+        let nodes = node_count(alloc, jobs, settings, longest)?;
         let (counts, seat) = TableCounts::<S>::new(alloc, nodes, jobs.jobs() as u64)?;
         let Some((seat, starts)) = arm_all(alloc, jobs, &counts, seat)? else {
             return Ok(None);

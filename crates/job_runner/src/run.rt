@@ -109,8 +109,9 @@ where
         × ((j k : ℕ) → R.size j k ≡ S.run.size j k) }
 {
     let (work, tasks, idles) = TableWork::<S, R>::new(alloc, jobs, settings, opened)?;
-    // There are never more tasks than nodes.
-    let most = workers_worth(jobs, settings).min(work.nodes.counts.nodes() as usize);
+    // Each task begins a job or has a node.
+    let nodes = work.nodes.counts.nodes() as usize;
+    let most = workers_worth(jobs, settings).min(nodes.saturating_add(tasks.len()));
     run_tasks(rt, alloc, gate, &work, tasks, idles, most);
     Ok(work.places)
 }

@@ -8,6 +8,7 @@ use crate::cut::CutPiece;
 use crate::start::{Start, Waiting};
 use crate::task::{JobSeat, RunBrand, UnopenedJobs};
 use completer_tree::Tree;
+use completion_core::END;
 use pending_count::{Counts, Fits, Seat};
 use std::marker::PhantomData;
 
@@ -42,12 +43,22 @@ impl<V, K: Fits<V, Tag = CutPiece>, R: RunBrand> RunNodes<V, K, R> {
     }
 
     /// Arrives at the start node of a job, along the path of that node alone: the next one on the way is arrived at
-    /// once the job has left its answer. If it is the last arrival, the job may begin.
+    /// once the job has left its answer. If it is the last arrival, the job may begin. The arrival at END of a job that
+    /// needs no start node stays: it is what the job has.
     fn arrive_at(&self, seat: Seat<V, K>, job: usize) -> Option<JobSeat<V, K, R>>
         requires job { job < R.jobs }
         requires can { CanArrive R.table R.jobs R.start R.keeps job seat }
     {
-        let path = [self.start(job).node];
+        let node = self.start(job).node;
+        if node == END {
+            let lone = JobSeat {
+                seat,
+                job,
+                of: PhantomData,
+            };
+            return Some(lone);
+        }
+        let path = [node];
         let tree = Tree::new(&self.counts, &[]);
         let (seat, finished) = tree.propagate_completion(seat, &path);
         if finished == 0 {

@@ -11,7 +11,8 @@ pub struct Waiting {
     pub(crate) node: Node,
 }
 
-/// The start node of a job. It owes an arrival for each job that its job names, and one more.
+/// The start node of a job. It owes an arrival for each job that its job names, and one more. It is END if the job
+/// names none and none waits for it: such a job begins with its arrival there.
 #[derive(Drop)]
 pub struct Start {
     pub(crate) node: Node,
