@@ -76,7 +76,7 @@ def page():
 
     A table keeps its rows and columns: a figure is what the command shows for the row's title, which is the first cell or stands
     before its colon, below the column's head. `-` is a peer that doesn't do the task, or isn't installed. The line that begins with
-    `Machine:` says where and when. Without --write the pages are printed. All takes some five minutes, on a machine without other work.
+    `Machine:` says where and when. Without --write the pages are printed. All takes some ten minutes, on a machine without other work.
     """
     options = options_of(page.__doc__, write=False)
     for name in PAGES:
