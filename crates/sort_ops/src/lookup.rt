@@ -20,8 +20,8 @@ const SPREAD: u64 = 11_400_714_819_323_198_485;
 /// How many items there are before positions are noted.
 const FEW: u32 = 64;
 
-/// Positions of items, at places that their values choose. Most items of few different values are found so, in a
-/// fraction of the time that a set takes. It is right with any positions, since the value there is compared.
+/// Positions of items, each at a place that the item's value chooses. Most items of few different values are found so,
+/// in a fraction of the time that a set takes. Any positions are right, since the value there is compared.
 #[derive(Drop)]
 struct Noted {
     /// Without elements while there are few items, or no memory for them.
@@ -37,7 +37,7 @@ impl Noted {
         (value.unsigned_abs().wrapping_mul(SPREAD) >> 52) as usize
     }
 
-    /// Whether one of the items, that at the noted position, has this value.
+    /// Whether the item at the position that was noted for this value has it.
     fn finds(&self, items: &[Item], value: i64) -> bool
         ensures { result ≡ true → is_among value (values_in items.now) ≡ true }
     {
