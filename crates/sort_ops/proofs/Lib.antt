@@ -4,6 +4,7 @@ pub mod Choices
 pub mod DistinctLemmas
 pub mod EnoughLemmas
 pub mod FirstLemmas
+pub mod HeldLemmas
 pub mod JoinedLemmas
 pub mod KeptFirstsLemmas
 pub mod LeastLemmas

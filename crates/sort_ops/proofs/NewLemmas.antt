@@ -64,12 +64,12 @@ or_is true b = refl
 or_is false b = refl
 
 -- a value that was put into the set
-pub put_in : (l m : Lookup) (xs : List Item) (x : Item) → m.class ≡ l.class → m.refused ≡ l.refused
+pub put_in : (l m : Lookup) (xs : List Item) (x : Item) → m.class ≡ l.class → m.partial ≡ l.partial
     → ((v : ℤ) → contains int_eq m.seen v ≡ cond (int_eq x.value v) true (contains int_eq l.seen v)) → Knows l xs
     → Knows m (xs ++ x ∷ [])
-put_in l m xs x class refused has knows going v inside =
+put_in l m xs x class partial has knows going v inside =
     has v ∙ or_is (int_eq x.value v) (contains int_eq l.seen v)
-    ∙ ap (λ b. int_eq x.value v || b) (knows (sym refused ∙ going) v (ap (λ c. is_in c v) (sym class) ∙ inside))
+    ∙ ap (λ b. int_eq x.value v || b) (knows (sym partial ∙ going) v (ap (λ c. is_in c v) (sym class) ∙ inside))
     ∙ sym (last_among v xs x)
 
 -- ---- items of different values

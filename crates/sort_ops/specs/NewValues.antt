@@ -22,14 +22,13 @@ abbrev pub AreOnce : Option ℕ → List Item → Type 0
 AreOnce c [] = ⊤
 AreOnce c (x ∷ xs) = (is_in c x.value ≡ true → is_among x.value (values_in xs) ≡ false) × AreOnce c xs
 
--- unless memory was refused, a set has of the values of its class just those of these items
+-- a set that isn't partial has of the values of its class just those of these items
 abbrev pub Knows : Lookup → List Item → Type 0
-Knows l xs = l.refused ≡ false → (v : ℤ) → is_in l.class v ≡ true → contains int_eq l.seen v ≡ is_among v (values_in xs)
+Knows l xs = l.partial ≡ false → (v : ℤ) → is_in l.class v ≡ true → contains int_eq l.seen v ≡ is_among v (values_in xs)
 
--- the first items have different values, and a set has just these values
+-- the first items were looked up: if that isn't partial, they have different values, and a set has just these values
 pub record AreKnown (xs : List Item) (known : ℕ) (l : Lookup) : Type 0 where
   pub within : known ≤ length xs
-  pub once : AreOnce None (take known xs)
+  pub once : l.partial ≡ false → AreOnce None (take known xs)
   pub all : l.class ≡ None
-  pub going : l.refused ≡ false
   pub knows : Knows l (take known xs)

@@ -20,49 +20,56 @@ const SPREAD: u64 = 11_400_714_819_323_198_485;
 /// How many items there are before positions are noted.
 const FEW: u32 = 64;
 
-/// Positions of items, each at a place that the item's value chooses. Most items of few different values are found so,
+/// Positions of items, two at each place that an item's value chooses. Most items of few different values are found so,
 /// in a fraction of the time that a set takes. Any positions are right, since the value there is compared.
 #[derive(Drop)]
 struct Noted {
     /// Without elements while there are few items, or no memory for them.
-    positions: Vec<u32>,
+    positions: Vec<[u32; 2]>,
 }
 
 impl Noted {
     /// How many places there are.
-    const PLACES: usize = 4096;
+    const PLACES: usize = 2048;
 
     /// The place of the positions of items with this value.
     fn place(value: i64) -> usize {
-        (value.unsigned_abs().wrapping_mul(SPREAD) >> 52) as usize
+        (value.unsigned_abs().wrapping_mul(SPREAD) >> 53) as usize
     }
 
-    /// Whether the item at the position that was noted for this value has it.
+    /// Whether one of the items at the positions that were noted for this value has it.
     fn finds(&self, items: &[Item], value: i64) -> bool
         ensures { result ≡ true → is_among value (values_in items.now) ≡ true }
     {
-        let Some(position) = self.positions.get(Noted::place(value)) else {
-            return false;
-        };
-        match items.get(*position as usize) {
-            Some(item) => has_value(*item, value),
+        match self.positions.get(Noted::place(value)) {
+            Some([last, other]) => { has_at(items, *last, value) || has_at(items, *other, value) }
             None => false,
         }
     }
 
-    /// Notes the position of an item with this value.
+    /// Notes the position of an item with this value, and forgets the older one of its place.
     fn note(&mut self, value: i64, position: usize) {
         let Ok(position) = u32::try_from(position) else {
             return;
         };
         if self.positions.is_empty()
-            && (position < FEW || self.positions.resize(Noted::PLACES, 0).is_err())
+            && (position < FEW || self.positions.resize(Noted::PLACES, [0; 2]).is_err())
         {
             return;
         }
         if let Some(noted) = self.positions.get_mut(Noted::place(value)) {
-            *noted = position;
+            *noted = [position, noted[0]];
         }
+    }
+}
+
+/// Whether there is an item at this position, and has this value.
+fn has_at(items: &[Item], position: u32, value: i64) -> bool
+    ensures { result ≡ true → is_among value (values_in items.now) ≡ true }
+{
+    match items.get(position as usize) {
+        Some(item) => has_value(*item, value),
+        None => false,
     }
 }
 
@@ -73,22 +80,35 @@ fn has_value(item: Item, value: i64) -> bool
     item.value == value
 }
 
-/// The values of items, or those of one class.
+/// What finds the items whose value came before, of all values or of one class: their noted positions, and a set of all
+/// values, if it isn't partial.
 #[derive(Drop)]
 pub(crate) struct Lookup {
     class: Option<u64>,
     seen: HashSet<i64>,
     noted: Noted,
-    /// Whether memory for a value was refused. After that no item is found.
-    pub(crate) refused: bool,
+    /// Whether the set is left alone, since few items need none, or since memory for a value was refused. Then items
+    /// may stay whose value came before.
+    pub(crate) partial: bool,
 }
 
 impl Lookup {
+    /// Without values: by positions alone. It takes no memory.
+    pub(crate) fn by_positions(alloc: Global) -> Lookup
+        ensures class { result.class ≡ None }
+        ensures partial { result.partial ≡ true }
+    {
+        Lookup {
+            partial: true,
+            ..Lookup::none(alloc, None)
+        }
+    }
+
     /// Without values: for those of a class, or for all. It takes no memory.
     pub(crate) fn none(alloc: Global, class: Option<u64>) -> Lookup
         ensures knows { Knows result [] }
         ensures class { result.class ≡ class }
-        ensures open { result.refused ≡ false }
+        ensures open { result.partial ≡ false }
     {
         Lookup {
             class,
@@ -96,7 +116,7 @@ impl Lookup {
             noted: Noted {
                 positions: Vec::new(alloc),
             },
-            refused: false,
+            partial: false,
         }
     }
 
@@ -104,40 +124,39 @@ impl Lookup {
     /// among those that came before.
     fn stays(&mut self, before: &[Item], item: Item) -> bool
         ensures class { self.new.class ≡ self.old.class }
-        ensures going { self.new.refused ≡ false → self.old.refused ≡ false }
+        ensures going { self.new.partial ≡ false → self.old.partial ≡ false }
         ensures new { result ≡ true → Knows self.old before.now → Knows self.new (before.now ++ item ∷ []) }
-        ensures once { result ≡ true → self.new.refused ≡ false → Knows self.old before.now
+        ensures once { result ≡ true → self.new.partial ≡ false → Knows self.old before.now
             → is_in self.old.class item.value ≡ true → is_among item.value (values_in before.now) ≡ false }
         ensures old { result ≡ false → Knows self.old before.now → Knows self.new before.now }
         ensures again { result ≡ false → Knows self.old before.now
             → is_among item.value (values_in before.now) ≡ true }
     {
-        if self.refused || !is_in(self.class, item.value) {
+        if !is_in(self.class, item.value) {
             return true;
         }
         if self.noted.finds(before, item.value) {
             return false;
         }
-        match self.seen.insert(item.value) {
-            Ok(true) => {
-                self.noted.note(item.value, before.len());
-                true
-            }
-            Ok(false) => false,
-            Err(_) => {
-                self.refused = true;
-                true
+        if !self.partial {
+            match self.seen.insert(item.value) {
+                Ok(true) => {}
+                Ok(false) => return false,
+                Err(_) => self.partial = true,
             }
         }
+        self.noted.note(item.value, before.len());
+        true
     }
 
-    /// Makes room for this number of values, if there is memory for it: a set that grows with each of them puts them
-    /// into several tables, one after the other.
-    pub(crate) fn reserve(&mut self, count: usize)
+    /// Begins to fill the set, with room for this number of values, if there is memory for it: a set that grows with
+    /// each of them puts them into several tables, one after the other.
+    pub(crate) fn begin_set(&mut self, alloc: Global, count: usize)
+        ensures knows { Knows self.new [] }
         ensures class { self.new.class ≡ self.old.class }
-        ensures going { self.new.refused ≡ self.old.refused }
-        ensures knows { (xs : List meant_item) → Knows self.old xs → Knows self.new xs }
     {
+        self.seen = HashSet::new(alloc);
+        self.partial = false;
         let _ = self.seen.reserve(count);
     }
 }
@@ -167,7 +186,8 @@ pub(crate) fn take_out(items: &mut Vec<Item>, from: usize, lookup: &mut Lookup)
     ensures firsts { firsts [] items.new.items ≡ firsts [] items.old.items }
     ensures known { Knows lookup.new items.new.items }
     ensures class { lookup.new.class ≡ lookup.old.class }
-    ensures once { lookup.new.refused ≡ false → AreOnce lookup.old.class (take from items.old.items)
+    ensures going { lookup.new.partial ≡ false → lookup.old.partial ≡ false }
+    ensures once { lookup.new.partial ≡ false → AreOnce lookup.old.class (take from items.old.items)
         → AreOnce lookup.old.class items.new.items }
     ensures others { (c : Option ℕ) → AreOnce c items.old.items → AreOnce c items.new.items }
 {
@@ -191,7 +211,7 @@ pub(crate) fn take_out_by_classes(items: &mut Vec<Item>) -> Result<(), NoMemory>
     for class in 0..CLASSES {
         let mut lookup = Lookup::none(*items.allocator(), Some(class));
         take_out(items, 0, &mut lookup);
-        if lookup.refused {
+        if lookup.partial {
             return Err(NoMemory);
         }
     }

@@ -1,7 +1,6 @@
 //! Items, and which of them have new values.
 
-ghost use Rattle.std.specs.Prelude.{◌≡◌, ◌<◌, [], ◌++◌, length, IfOk, OnErr, OnOk, List};
-ghost use Rattle.lambda_values.specs.declared.item.Item.{Item as meant_item};
+ghost use Rattle.std.specs.Prelude.{◌≡◌, ◌<◌, [], ◌++◌, length, true, None, IfOk, IfSome, OnErr, OnOk};
 ghost use Rattle.sort_ops.specs.Firsts.{firsts};
 ghost use Rattle.sort_ops.specs.NewValues.{AreKnown};
 
@@ -14,18 +13,21 @@ use trace::{Item, NoMemory, SourceItems};
 /// How many new items are looked up together.
 const LOOSE: usize = 1024;
 
+/// Up to how many items are looked up by positions alone, if nobody asks how many have new values.
+const FEW: usize = 2048;
+
 /// From how many items on they are looked up by classes.
 const MANY: usize = 65_536;
 
-/// Items, and a set of the values of the first ones. Contracts see the items whose value no item before them has: the
+/// Items, of which the first ones were looked up. Contracts see the items whose value no item before them has: the
 /// others are taken out where that is asked for, and where there is memory for it.
 #[derive(Drop)]
 pub(crate) struct NewValues {
     items: Vec<Item>,
-    /// How many items were looked up: they have different values.
+    /// How many items were looked up. They have different values, if the lookup isn't partial.
     known: usize,
     lookup: Lookup,
-    /// How many items there were when they were last looked up.
+    /// How many items there were when all were last known to have new values.
     settled: usize,
 }
 
@@ -50,7 +52,7 @@ impl NewValues {
         NewValues {
             items: Vec::new(alloc),
             known: 0,
-            lookup: Lookup::none(alloc, None),
+            lookup: Lookup::by_positions(alloc),
             settled: 0,
         }
     }
@@ -60,11 +62,16 @@ impl NewValues {
         self.items.len()
     }
 
-    /// Whether it is time to look new items up: there are many, or these may be enough. Without a set all items have to
-    /// be looked up, so there have to be more new ones than others.
+    /// Whether it is time to look new items up: there are many, or these may be enough and a set has the others.
     pub(crate) fn is_due(&self, may_be_enough: bool) -> bool {
-        let new = self.items.len().saturating_sub(self.settled);
-        (may_be_enough || new >= LOOSE) && (self.known > 0 || new >= self.settled)
+        let new = self.items.len().saturating_sub(self.known);
+        new >= LOOSE || may_be_enough && (!self.lookup.partial || self.are_doubled())
+    }
+
+    /// Whether there are twice the items of which it was last known that all have new values: a walk over all of them
+    /// is due only then.
+    fn are_doubled(&self) -> bool {
+        self.items.len() / 2 >= self.settled
     }
 
     /// Adds the items of a source. If the allocation fails, there are those of before.
@@ -86,15 +93,22 @@ impl NewValues {
         Ok(())
     }
 
-    /// Takes out the items whose value isn't new, and says how many are left. If an allocation fails, some may stay.
-    pub(crate) fn settle(&mut self) -> Result<usize, NoMemory>
+    /// Takes out items whose value isn't new. The result is how many are left, if all of these have new values: it is
+    /// none if that wasn't asked for and there are few, or if memory was refused.
+    pub(crate) fn settle(&mut self, may_be_enough: bool) -> Option<usize>
         ensures same { self.new ≡ self.old }
-        ensures count { IfOk result (λ count. count ≡ length self.new) }
+        ensures count { IfSome result (λ count. count ≡ length self.new) }
     {
-        let taken = take_out_new(&mut self.items, &mut self.known, &mut self.lookup);
+        let least = if may_be_enough && self.are_doubled() {
+            0
+        } else {
+            FEW.max(self.settled.saturating_mul(2))
+        };
+        if !take_out_new(&mut self.items, &mut self.known, &mut self.lookup, least) {
+            return None;
+        }
         self.settled = self.items.len();
-        taken?;
-        Ok(self.settled)
+        Some(self.settled)
     }
 
     /// Frees the memory of a large set.
@@ -102,7 +116,7 @@ impl NewValues {
         ensures { self.new ≡ self.old }
     {
         if self.known >= MANY {
-            forget(*self.items.allocator(), &mut self.known, &mut self.lookup);
+            self.lookup = Lookup::by_positions(*self.items.allocator());
         }
     }
 
@@ -116,41 +130,51 @@ impl NewValues {
             mut lookup,
             settled: _,
         } = self;
-        take_out_new(&mut items, &mut known, &mut lookup)?;
+        if !take_out_new(&mut items, &mut known, &mut lookup, 0) {
+            return Err(NoMemory);
+        }
         Ok(items)
     }
 }
 
-/// Takes out the items whose value isn't new. If an allocation fails, some may stay.
-fn take_out_new(
-    items: &mut Vec<Item>,
-    known: &mut usize,
-    lookup: &mut Lookup,
-) -> Result<(), NoMemory>
+/// Takes out items whose value isn't new: by positions alone if fewer than `least` are left then and there is no set
+/// yet. Whether none of those is left.
+fn take_out_new(items: &mut Vec<Item>, known: &mut usize, lookup: &mut Lookup, least: usize) -> bool
     requires { AreKnown items.old.items known.old lookup.old }
     ensures known { AreKnown items.new.items known.new lookup.new }
     ensures same { firsts [] items.new.items ≡ firsts [] items.old.items }
-    ensures new { OnOk result (firsts [] items.new.items ≡ items.new.items) }
+    ensures new { result ≡ true → firsts [] items.new.items ≡ items.new.items }
 {
     if items.len() - *known >= MANY {
-        forget(*items.allocator(), known, lookup);
-        return take_out_by_classes(items);
+        *lookup = Lookup::by_positions(*items.allocator());
     }
-    lookup.reserve(items.len() - *known);
     take_out(items, *known, lookup);
-    if lookup.refused {
-        forget(*items.allocator(), known, lookup);
-        return Err(NoMemory);
-    }
     *known = items.len();
-    Ok(())
+    if !lookup.partial {
+        return true;
+    }
+    if items.len() < least {
+        return false;
+    }
+    take_out_all(items, known, lookup)
 }
 
-/// Forgets which items were looked up, and frees the memory of their set.
-fn forget(alloc: Global, known: &mut usize, lookup: &mut Lookup)
-    ensures none { known.new ≡ 0 }
-    ensures known { (xs : List meant_item) → AreKnown xs known.new lookup.new }
+/// Takes out all items whose value isn't new, by a set, or by classes if there are many. If an allocation fails, some
+/// may stay, and the result is false.
+fn take_out_all(items: &mut Vec<Item>, known: &mut usize, lookup: &mut Lookup) -> bool
+    requires { lookup.old.class ≡ None }
+    ensures known { AreKnown items.new.items known.new lookup.new }
+    ensures same { firsts [] items.new.items ≡ firsts [] items.old.items }
+    ensures new { result ≡ true → firsts [] items.new.items ≡ items.new.items }
 {
-    *known = 0;
-    *lookup = Lookup::none(alloc, None);
+    if items.len() >= MANY {
+        *lookup = Lookup::by_positions(*items.allocator());
+        let taken = take_out_by_classes(items);
+        *known = items.len();
+        return taken.is_ok();
+    }
+    lookup.begin_set(*items.allocator(), items.len());
+    take_out(items, 0, lookup);
+    *known = items.len();
+    !lookup.partial
 }

@@ -21,6 +21,7 @@ loop-position-init c =
       known = c.requires.known;
       class = refl;
       once = λ going once. once;
+      going = λ going. going;
       others = λ k once. subst (AreOnce k) (sym same) once;
     }
 
@@ -64,6 +65,7 @@ loop-position-preserved c =
                 (one_once c.args.lookup.now.class seen x (i.once (c.stays.ensures.going going) before)
                 (λ inside. subst (λ (l : List Item). is_among x.value (values_in l) ≡ false) looked
                 (c.stays.ensures.once w.if-stays.true going known (ap (λ l. is_in l x.value) i.class ∙ inside))));
+            going = λ going. i.going (c.stays.ensures.going going);
             others = λ d once. subst (AreOnce d) (sym same) (i.others d once);
           }
       | else-stays w ↦
@@ -83,6 +85,7 @@ loop-position-preserved c =
             class = c.stays.ensures.class ∙ i.class;
             once = λ going before. subst (AreOnce c.args.lookup.now.class) (sym front)
                 (i.once (c.stays.ensures.going going) before);
+            going = λ going. i.going (c.stays.ensures.going going);
             others = λ d once. subst (AreOnce d) (λ j. sym front j ++ sym rest j)
                 (fewer_once d seen x (drop (at + 1) xs)
                 (subst (λ (l : List Item). AreOnce d (seen ++ l)) next (i.others d once)));
@@ -117,3 +120,6 @@ returns-clause-others c = λ k once.
     drop_all c.loop-position.position xs (search (rules, i.long, i.end)) in
     subst (AreOnce k) (ap (λ (l : List Item). take c.loop-position.kept xs ++ l) none
     ∙ append-nil (take c.loop-position.kept xs) ∙ sym c.truncate.ensures.items) (i.others k once)
+
+pub returns-clause-going : goal.returns-clause-going
+returns-clause-going c = c.loop-position.invariant.going

@@ -11,8 +11,9 @@ invariant-loop-position l = record {
   firsts : firsts [] (take l.kept l.items.items ++ drop l.position l.items.items) ≡ firsts [] l.initial.items.items;
   known : Knows l.lookup (take l.kept l.items.items);
   class : l.lookup.class ≡ l.initial.lookup.class;
-  once : l.lookup.refused ≡ false → AreOnce l.initial.lookup.class (take l.from l.initial.items.items)
+  once : l.lookup.partial ≡ false → AreOnce l.initial.lookup.class (take l.from l.initial.items.items)
       → AreOnce l.initial.lookup.class (take l.kept l.items.items);
+  going : l.lookup.partial ≡ false → l.initial.lookup.partial ≡ false;
   others : (c : Option ℕ) → AreOnce c l.initial.items.items
       → AreOnce c (take l.kept l.items.items ++ drop l.position l.items.items);
 }

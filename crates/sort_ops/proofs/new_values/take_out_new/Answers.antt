@@ -1,16 +1,23 @@
-use Rattle.std.proofs.Common.{◌∙◌, sym, subst, take, rules}
+use Rattle.std.proofs.Common.{◌≡◌, true, false, None, Option, ℕ, take, sym, ap, subst, ◌∙◌, rules}
+use Rattle.sort_ops.specs.declared.lookup.Lookup.{Lookup}
 use Rattle.sort_ops.specs.NewValues.{AreOnce}
 use Rattle.sort_ops.proofs.NewLemmas.{own_firsts}
+use Rattle.sort_ops.proofs.new_values.take_out_new.Goals.{then-len-known-ge-MANY, else-len-known-ge-MANY}
 use Rattle.sort_ops.proofs.new_values.take_out_new.Goals as goal
 
-pub returns-then-len-known-ge-MANY-clause-new : goal.returns-then-len-known-ge-MANY-clause-new
-returns-then-len-known-ge-MANY-clause-new c = let own = own_firsts c.take_out_by_classes.new.items.items in
-    search (rules, own)
-
-pub returns-clause-new : goal.returns-clause-new
-returns-clause-new c =
-    let all = c.reserve.ensures.class ∙ c.requires.all in
+pub returns-then-not-lookup-clause-new : goal.returns-then-not-lookup-clause-new
+returns-then-not-lookup-clause-new c = λ whole.
     let now = c.take_out.new.items.items in
-    own_firsts now (subst (λ k. AreOnce k now) all
-    (c.take_out.ensures.once c.if-lookup.false
-    (subst (λ k. AreOnce k (take c.args.known.now c.args.items.now.items)) (sym all) c.requires.once)))
+    let before = take c.args.known.now c.args.items.now.items in
+    let going : c.take_out.new.lookup.partial ≡ false = search rules in
+    let was : c.if-len-known-ge-MANY.lookup.partial ≡ false = c.take_out.ensures.going going in
+    elim c.if-len-known-ge-MANY.branch [
+      | then-len-known-ge-MANY w ↦ absurd (let z : true ≡ false =
+          sym (ap (λ (l : Lookup). l.partial) w.lookup-is ∙ w.by_positions.ensures.partial) ∙ was in cc)
+      | else-len-known-ge-MANY w ↦
+          let class : c.if-len-known-ge-MANY.lookup.class ≡ None =
+          ap (λ (l : Lookup). l.class) w.lookup-is ∙ c.requires.all in
+          own_firsts now (subst (λ (k : Option ℕ). AreOnce k now) class
+          (c.take_out.ensures.once going (subst (λ (k : Option ℕ). AreOnce k before) (sym class)
+          (c.requires.once (sym (ap (λ (l : Lookup). l.partial) w.lookup-is) ∙ was)))))
+    ]
