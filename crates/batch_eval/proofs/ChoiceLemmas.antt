@@ -143,7 +143,7 @@ chosen_ok : (c : Bool) (x y : ℤ) → chosen {A = Result ℤ FaultKind} c (Ok x
 chosen_ok true x y = refl
 chosen_ok false x y = refl
 
--- the one of two values that the flag wants, where both are known
-pub by_flag_ones : (z x y w : ℤ) (a b : Result ℤ FaultKind) → w ≡ (if is_set z then x else y) → a ≡ Ok x → b ≡ Ok y
-    → by_flag z a b ≡ Ok w
-by_flag_ones z x y w a b is a_is b_is = rw (is, a_is, b_is) (chosen_ok (is_set z) x y)
+-- the one of two values that is wanted, where both are known
+pub chosen_ones : (c : Bool) (x y w : ℤ) (a b : Result ℤ FaultKind) → w ≡ (if c then x else y) → a ≡ Ok x → b ≡ Ok y
+    → chosen c a b ≡ Ok w
+chosen_ones c x y w a b is a_is b_is = rw (is, a_is, b_is) (chosen_ok c x y)

@@ -7,8 +7,10 @@ use Rattle.lambda_values.specs.declared.fault.FaultKind.{FaultKind}
 use Rattle.lambda_values.specs.declared.operator.Comparison.{Comparison}
 use Rattle.lambda_values.specs.declared.operator.Comparison.TheVariants as comparison
 use Rattle.lambda_values.specs.Operators.{on, comparison_value}
-use Rattle.lambda_values.specs.Value.{chosen}
-use Rattle.batch_eval.specs.Choices.{between, chosen_value}
+use Rattle.lambda_values.specs.declared.operator.Connective.{Connective}
+use Rattle.lambda_values.specs.declared.operator.Connective.TheVariants as connective
+use Rattle.lambda_values.specs.Value.{chosen, connected}
+use Rattle.batch_eval.specs.Choices.{between, chosen_value, connected_flag}
 use Rattle.batch_eval.specs.Lanes.{compared, flag_of, flagged, is_set}
 
 pub flagged_between : (c : Comparison) (a b : Result ℤ FaultKind)
@@ -28,6 +30,16 @@ pub flagged_chosen : (c a b : Result Bool FaultKind)
 flagged_chosen (Err e) a b = refl
 flagged_chosen (Ok true) a b = refl
 flagged_chosen (Ok false) a b = refl
+
+pub flagged_connected : (c : Connective) (a r : Result Bool FaultKind) (b : Bool) → r ≡ Ok b
+    → flagged (on a (λ p. connected c p r)) ≡ on (flagged a) (λ z. Ok (connected_flag c z b))
+flagged_connected c (Err e) r b is = refl
+flagged_connected connective.And (Ok true) r true is = ap flagged is
+flagged_connected connective.And (Ok true) r false is = ap flagged is
+flagged_connected connective.And (Ok false) r b is = refl
+flagged_connected connective.Or (Ok true) r b is = refl
+flagged_connected connective.Or (Ok false) r true is = ap flagged is
+flagged_connected connective.Or (Ok false) r false is = ap flagged is
 
 -- all bits of a number
 pub all_bits : (z : ℤ) → FitsSigned w64 z → int_bit_and w64 z (negsuc 0) ≡ z

@@ -2,6 +2,7 @@ pub mod BatchWalkLemmas
 pub mod ChoiceLemmas
 pub mod FaultlessLemmas
 pub mod FewLemmas
+pub mod FitLemmas
 pub mod FlagLemmas
 pub mod FlaggedLemmas
 pub mod Items
@@ -11,6 +12,7 @@ pub mod PlaceLemmas
 pub mod PowerLemmas
 pub mod RangeLemmas
 pub mod ReciprocalLemmas
+pub mod RestLemmas
 pub mod RowLemmas
 pub mod SetItemLemmas
 pub mod ShiftLemmas

@@ -11,7 +11,7 @@ use Rattle.trace.specs.declared.feeding.Fed.{Fed}
 use Rattle.trace.specs.declared.feeding.Fed.TheVariants as fed
 use Rattle.trace.specs.Trace.{Trace, trace}
 use Rattle.batch_eval.specs.Lanes.{at, is_set}
-use Rattle.batch_eval.specs.NumberTests.{masked}
+use Rattle.batch_eval.specs.NumberTests.{seen_of}
 use Rattle.batch_eval.specs.declared.number_test.NumberTest.{NumberTest}
 
 -- what n lanes give, one after the other
@@ -64,9 +64,9 @@ CountsUp None n = Unit {0}
 abbrev pub passing : List ℤ → ℕ → List ℕ
 passing flags n = picked (λ k. is_set (at flags k)) n
 
--- whether a comparison with a number, after a mask, holds
+-- whether a comparison with a number holds
 abbrev pub holds : NumberTest → ℤ → Bool
-holds t z = comparison_value t.comparison (masked t.mask z) t.number
+holds t z = comparison_value t.comparison (seen_of t.seen z) t.number
 
 -- the items of lanes whose flag is set, one after the other
 abbrev pub flagged_items : (ℤ → Bool) → Option ℕ → List ℕ → List ℤ → List ℤ → List Item

@@ -1,16 +1,20 @@
 -- Condition: the values of operands, as the definitions of expressions combine them.
-use Rattle.std.specs.Prelude.{◌≡◌, ℕ, ℤ, Bool, Result, Ok}
+use Rattle.std.specs.Prelude.{◌≡◌, ◌&&◌, ◌||◌, ℕ, ℤ, Bool, Result, Ok}
 use Rattle.lambda_values.specs.declared.fault.FaultKind.{FaultKind}
 use Rattle.lambda_values.specs.declared.item.Item.{Item}
 use Rattle.lambda_values.specs.Earlier.{Numbers}
 use Rattle.lambda_values.specs.Operators.{on}
 use Rattle.lambda_values.specs.Term.{long_of, truth_of}
 use Rattle.lambda_values.specs.Value.{chosen, long_value, truth_value}
+use Rattle.lambda_values.specs.declared.operator.Connective.{Connective}
+use Rattle.lambda_values.specs.declared.operator.Connective.TheVariants as connective
+use Rattle.batch_eval.specs.Batches.{holds}
+use Rattle.batch_eval.specs.declared.operands.LaneTest.{LaneTest}
 use Rattle.batch_eval.specs.declared.register.Operand.{Operand}
 use Rattle.batch_eval.specs.declared.register.Operand.TheVariants as operand
 use Rattle.batch_eval.specs.declared.register.Inputs.{Inputs}
 use Rattle.batch_eval.specs.Rows.{row_at}
-use Rattle.batch_eval.specs.Lanes.{at, flag_of, flagged, is_set}
+use Rattle.batch_eval.specs.Lanes.{at, flag_of, flagged, is_set, step_value}
 
 -- the item of a lane
 abbrev pub lane_item : Inputs → ℕ → Item
@@ -42,3 +46,12 @@ operand_value (operand.Flag b) x env = Ok (flag_of b)
 abbrev pub IsSame : Operand → ℕ → ℕ → Type 0
 IsSame o i j = (v : ℤ) (env : Numbers) → operand_value o (record { origin = i; value = v }) env
     ≡ operand_value o (record { origin = j; value = v }) env
+
+-- whether the number at a lane passes a test after a step
+abbrev pub lane_passes : LaneTest → ℕ → Bool
+lane_passes t k = holds t.set (step_value t.step (at t.xs.now k))
+
+-- a flag and a boolean, connected
+abbrev pub connected_flag : Connective → ℤ → Bool → ℤ
+connected_flag connective.And z b = flag_of (is_set z && is_set (flag_of b))
+connected_flag connective.Or z b = flag_of (is_set z || is_set (flag_of b))

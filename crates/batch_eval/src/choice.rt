@@ -5,12 +5,15 @@ ghost use Rattle.batch_eval.specs.Rows.{HasRows};
 ghost use Rattle.batch_eval.specs.Rooms.{FitsChosen, FitsParted};
 ghost use Rattle.batch_eval.specs.Choices.{at_each, between, by_flag, chosen_value, operand_value};
 ghost use Rattle.lambda_values.specs.Term.{truth_of};
-ghost use Rattle.lambda_values.specs.Value.{truth_value};
+ghost use Rattle.lambda_values.specs.Value.{chosen, truth_value};
+ghost use Rattle.batch_eval.specs.Batches.{holds};
 ghost use Rattle.std.specs.Prelude.{◌≡◌, ◌<◌, ◌≤◌, ℕ, IsTrue, Ok, length};
 
 use crate::cheap::is_cheap;
 use crate::choose::{Side, all_flags, gather, merge};
-use crate::operands::blend;
+use crate::lying::lane_test;
+use crate::number_test::NumberTest;
+use crate::operands::{Step, blend};
 use crate::reached::{Reached, all};
 use crate::register::{Inputs, LANES, Operand, eval_bool, eval_branch, eval_operand};
 use crate::rows::{Rows, gather_rows};
@@ -35,16 +38,50 @@ pub(crate) fn eval_chosen(
     ensures { Reaches (at_each inputs.entry (λ x env. chosen_value (truth_value (truth_of condition.now) x env)
         (operand_value a.entry x env) (operand_value b.entry x env))) (at out.new) inputs.entry.live result }
 {
+    if eval_tested(condition, a, b, inputs, out, room) {
+        return all(inputs.live);
+    }
     let (flags, rest) = room.split_at_mut(LANES);
     let tested = eval_bool(condition, inputs, flags, rest);
     let valid = Inputs {
         live: tested.live,
         ..inputs
     };
-    if eval_both(flags, a, b, valid, out, rest) {
+    if eval_both(flags, NumberTest::is_set(), a, b, valid, out, rest) {
         return all(tested.live).after(tested);
     }
     eval_parted(flags, a, b, valid, out, rest).after(tested)
+}
+
+/// Puts `condition ? a : b` into a register, if the condition compares numbers where they lie with a number, and `a`
+/// and `b` are cheap and have a value at each lane; else answers false. It writes no flags.
+#[cycle(register)]
+fn eval_tested(
+    condition: &BoolExpr,
+    a: Operand<'_>,
+    b: Operand<'_>,
+    inputs: Inputs<'_, '_>,
+    out: &mut [i64],
+    room: &mut [i64],
+) -> bool
+    requires lanes { inputs.live ≤ 1024 }
+    requires xs { inputs.live ≤ length inputs.xs.now }
+    requires rows { HasRows inputs.rows inputs.live }
+    requires out { inputs.live ≤ length out.old }
+    requires room { FitsChosen (truth_of condition.now) a b (length room.old) }
+    ensures { IsTrue result → (k : ℕ) → k < inputs.entry.live
+        → chosen_value (at_each inputs.entry (truth_value (truth_of condition.now)) k)
+        (at_each inputs.entry (operand_value a.entry) k) (at_each inputs.entry (operand_value b.entry) k)
+        ≡ Ok (at out.new k) }
+{
+    let Some(test) = lane_test(condition, inputs) else {
+        return false;
+    };
+    let Step::Stay = test.step else {
+        return false;
+    };
+    let (_, rest) = room.split_at_mut(LANES);
+    eval_both(test.xs, test.set, a, b, inputs, out, rest)
 }
 
 /// Puts the operand that each flag chooses into a register, up to the first fault. Each operand is evaluated only at
@@ -108,11 +145,12 @@ fn eval_parted(
     merge(flags, live, ones, others, out)
 }
 
-/// Puts the operand that each flag chooses into a register, if both operands are cheap and have a value at each lane;
-/// else answers false. Both are evaluated at all lanes.
+/// Puts the operand that a test of a number at each lane chooses into a register, if both operands are cheap and have a
+/// value at each lane; else answers false. Both are evaluated at all lanes.
 #[cycle(register)]
 fn eval_both(
-    flags: &[i64],
+    xs: &[i64],
+    set: NumberTest,
     a: Operand<'_>,
     b: Operand<'_>,
     inputs: Inputs<'_, '_>,
@@ -120,13 +158,13 @@ fn eval_both(
     room: &mut [i64],
 ) -> bool
     requires lanes { inputs.live ≤ 1024 }
-    requires flags { inputs.live ≤ length flags.now }
+    requires tested { inputs.live ≤ length xs.now }
     requires xs { inputs.live ≤ length inputs.xs.now }
     requires rows { HasRows inputs.rows inputs.live }
     requires out { inputs.live ≤ length out.old }
     requires room { FitsParted a b (length room.old) }
     ensures { IsTrue result → (k : ℕ) → k < inputs.entry.live
-        → by_flag (at flags.now k) (at_each inputs.entry (operand_value a.entry) k)
+        → chosen (holds set (at xs.now k)) (at_each inputs.entry (operand_value a.entry) k)
         (at_each inputs.entry (operand_value b.entry) k) ≡ Ok (at out.new k) }
 {
     if !is_cheap(a) || !is_cheap(b) {
@@ -136,6 +174,6 @@ fn eval_both(
     let (others, rest) = rest.split_at_mut(2 * LANES);
     let (one, first) = eval_branch(a, inputs, ones, rest);
     let (other, second) = eval_branch(b, inputs, others, rest);
-    blend(flags, one, other, inputs.live, out);
+    blend(xs, set, one, other, inputs.live, out);
     first.live == inputs.live && second.live == inputs.live
 }

@@ -1,7 +1,7 @@
 //! Lanes by their flags: the lanes of one kind moved to a register of their own, and two of these registers merged
 //! again.
 
-ghost use Rattle.batch_eval.specs.Batches.{wanted, wants};
+ghost use Rattle.batch_eval.specs.Batches.{holds, wanted, wants};
 ghost use Rattle.batch_eval.specs.Lanes.{Reaches, at, is_set as is_set_flag};
 ghost use Rattle.lambda_values.specs.declared.fault.FaultKind.{FaultKind};
 ghost use Rattle.std.specs.Prelude.{◌≡◌, ℕ, ℤ, ◌<◌, ◌≤◌, IsTrue, Result, false, length, slice_index, true};
@@ -100,19 +100,33 @@ pub(crate) fn merge(
     all(live)
 }
 
-/// One operand into the lanes whose flag is set, and another one into the others.
-pub(crate) fn select<A: Lanes, B: Lanes>(flags: &[i64], a: A, b: B, live: usize, out: &mut [i64])
-    requires flags { live ≤ length flags.now }
+/// One operand into the lanes whose number passes a test, and another one into the others.
+pub(crate) fn select<A: Lanes, B: Lanes>(
+    xs: &[i64],
+    set: NumberTest,
+    a: A,
+    b: B,
+    live: usize,
+    out: &mut [i64],
+)
+    requires xs { live ≤ length xs.now }
     requires a { live ≤ A.count a }
     requires b { live ≤ B.count b }
     requires out { live ≤ length out.old }
     ensures { (k : ℕ) → k < live → at out.new k
-        ≡ (if is_set_flag (at flags.now k) then A.number a (at out.old k) k else B.number b (at out.old k) k) }
+        ≡ (if holds set (at xs.now k) then A.number a (at out.old k) k else B.number b (at out.old k) k) }
 {
     for i in 0..live {
         let old = out[i];
         let one = a.get(i, old);
         let other = b.get(i, old);
-        out[i] = if is_set(flags[i]) { one } else { other };
+        out[i] = one_of(set.holds(xs[i]), one, other);
     }
+}
+
+/// The first number, or the other one.
+fn one_of(first: bool, one: i64, other: i64) -> i64
+    ensures { result ≡ (if first then one else other) }
+{
+    if first { one } else { other }
 }

@@ -11,7 +11,9 @@ use crate::division::{
     DivideByReciprocal, Division, FloorDivideByReciprocal, FloorRemainderByReciprocal, Natural,
     RemainderByReciprocal,
 };
-use crate::exact::{NATURAL, SHORT, differences_within, lanes_within, sums_within};
+use crate::exact::{
+    NATURAL, SHORT, differences_within, lanes_within, of_factors, of_terms, sums_within,
+};
 use crate::kernel::{
     Absolute, Add, AddExact, And, Complement, Divide, Equal, FloorDivide, FloorRemainder, Greater,
     GreaterOrEqual, Infix, Kernel, Less, LessOrEqual, Max, Min, Multiply, MultiplyExact, Negate,
@@ -21,7 +23,7 @@ use crate::kernel::{
 use crate::lanes::{Lanes, Number, Own, Register, Stepped};
 use crate::loops::{divide, run};
 use crate::multiply::{MultiplyByHalf, is_half};
-use crate::operands::{Beside, Held, Step, by_kernel};
+use crate::operands::{Beside, Held, Step, by_kernel, steps_within};
 use crate::power::{
     DivideByPower, FloorDivideByPower, FloorRemainderByPower, RemainderByPower, exponent_of,
 };
@@ -73,8 +75,17 @@ fn by_infix_lanes<A: Lanes>(
     ensures { Reaches (λ k. beside_value (infix_value op) beside.entry (A.number a (at out.old k) k) k)
         (at out.new) live result }
 {
-    match beside {
-        Beside::Number(step, y) => by_number(op, a, step, y, live, out),
+    match (op, beside) {
+        (_, Beside::Number(step, y)) => by_number(op, a, step, y, live, out),
+        (Infix::Compute(BinaryOperator::AddExact), Beside::Register(ys, step)) => {
+            by_exact_lanes::<AddExact, Add, A>(of_terms(), a, ys, step, live, out)
+        }
+        (Infix::Compute(BinaryOperator::SubtractExact), Beside::Register(ys, step)) => {
+            by_exact_lanes::<SubtractExact, Subtract, A>(of_terms(), a, ys, step, live, out)
+        }
+        (Infix::Compute(BinaryOperator::MultiplyExact), Beside::Register(ys, step)) => {
+            by_exact_lanes::<MultiplyExact, Multiply, A>(of_factors(), a, ys, step, live, out)
+        }
         _ => by_operator(op, a, beside, live, out),
     }
 }
@@ -190,6 +201,32 @@ fn by_exact_number<K: Kernel, W: Kernel, A: Lanes>(
         run::<W, A, Number>(a, Number(y), live, out)
     } else {
         run::<K, A, Number>(a, Number(y), live, out)
+    }
+}
+
+/// An exact operator of lanes and of a register after a step: the wrapping operator, where no operand is out of these
+/// bounds.
+fn by_exact_lanes<K: Kernel, W: Kernel, A: Lanes>(
+    bounds: (i64, i64),
+    a: A,
+    ys: &[i64],
+    step: Step,
+    live: usize,
+    out: &mut [i64],
+) -> Reached
+    requires wraps { (x y : ℤ) → bounds.0 ≤ℤ x → x ≤ℤ bounds.1 → bounds.0 ≤ℤ y → y ≤ℤ bounds.1
+        → W.value x y ≡ K.value x y }
+    requires a { live ≤ A.count a }
+    requires ys { live ≤ length ys.now }
+    requires out { live ≤ length out.old }
+    ensures { Reaches (λ k. K.value (A.number a (at out.old k) k) (step_value step (at ys.now k)))
+        (at out.new) live result }
+{
+    let beside = Beside::Register(ys, step);
+    if lanes_within(a, bounds, live, out) && steps_within(ys, step, bounds, live) {
+        by_kernel::<W, A>(a, beside, live, out)
+    } else {
+        by_kernel::<K, A>(a, beside, live, out)
     }
 }
 

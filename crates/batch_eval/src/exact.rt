@@ -4,7 +4,7 @@
 ghost use Rattle.batch_eval.specs.Batches.{holds};
 ghost use Rattle.batch_eval.specs.Lanes.{at};
 ghost use Rattle.std.specs.Int.{w64};
-ghost use Rattle.std.specs.Prelude.{◌≡◌, ◌≤◌, ◌<◌, ℕ, ℤ, pos, ◌+ℤ◌, ◌-ℤ◌, ◌≤ℤ◌, FitsSigned, IsTrue, length};
+ghost use Rattle.std.specs.Prelude.{◌≡◌, ◌≤◌, ◌<◌, ℕ, ℤ, pos, ◌+ℤ◌, ◌-ℤ◌, ◌*ℤ◌, ◌≤ℤ◌, FitsSigned, IsTrue, length};
 
 use crate::lanes::Lanes;
 use crate::number_test::NumberTest;
@@ -35,6 +35,23 @@ pub(crate) fn differences_within(y: i64) -> (i64, i64)
     } else {
         (i64::MIN + y, i64::MAX)
     }
+}
+
+/// Bounds of two numbers whose sum and whose difference need no more than 64 bits.
+pub(crate) fn of_terms() -> (i64, i64)
+    ensures sums { (x y : ℤ) → result.0 ≤ℤ x → x ≤ℤ result.1 → result.0 ≤ℤ y → y ≤ℤ result.1 → FitsSigned w64 (x +ℤ y) }
+    ensures differences { (x y : ℤ) → result.0 ≤ℤ x → x ≤ℤ result.1 → result.0 ≤ℤ y → y ≤ℤ result.1
+        → FitsSigned w64 (x -ℤ y) }
+{
+    (i64::MIN / 2, i64::MAX / 2)
+}
+
+/// Bounds of two numbers whose product needs no more than 64 bits.
+#[tactic(auto, using(crate::proofs::FitLemmas::product_fits))]
+pub(crate) fn of_factors() -> (i64, i64)
+    ensures { (x y : ℤ) → result.0 ≤ℤ x → x ≤ℤ result.1 → result.0 ≤ℤ y → y ≤ℤ result.1 → FitsSigned w64 (x *ℤ y) }
+{
+    SHORT
 }
 
 /// Whether each of these lanes is within two bounds. There is no early end, so that the loop has no branch.

@@ -18,6 +18,7 @@ use crate::cheap::is_cheap;
 use crate::choose::select;
 use crate::keep::keep_lanes;
 use crate::lanes::{Number, Own};
+use crate::number_test::NumberTest;
 use crate::pipeline::Pipeline;
 use crate::register::{Inputs, Operand, eval_bool, eval_long};
 use crate::rows::Rows;
@@ -115,7 +116,8 @@ impl Batch {
                 if eval_bool(test, inputs, &mut self.spare, room).live < self.live {
                     return line;
                 }
-                select(&self.spare, Own, Number(0), self.live, flags);
+                let set = NumberTest::is_set();
+                select(&self.spare, set, Own, Number(0), self.live, flags);
                 self.sift(later, in_lanes, flags, room)
             }
             _ => line,

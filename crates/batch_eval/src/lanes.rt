@@ -1,10 +1,13 @@
 //! What loops over lanes read. Each is a type, so that one function is all loops.
 
-ghost use Rattle.batch_eval.specs.Lanes.{at, or_zero};
+ghost use Rattle.batch_eval.specs.Batches.{holds};
+ghost use Rattle.batch_eval.specs.Lanes.{at, flag_of, or_zero};
 ghost use Rattle.lambda_values.specs.Wrap.{wrap};
 ghost use Rattle.std.specs.Prelude.{◌≡◌, ◌<◌, ◌^◌, ◌+ℤ◌, ℕ, ℤ, length, pos};
 
+use crate::flag::flag;
 use crate::kernel::Kernel;
+use crate::number_test::NumberTest;
 use std::marker::PhantomData;
 
 /// A number at each lane.
@@ -95,5 +98,22 @@ impl<K: Kernel, A: Lanes> Lanes for Stepped<K, A> {
             Ok(value) => value,
             Err(_) => 0,
         }
+    }
+}
+
+/// What a test says of other lanes, as flags.
+#[derive_where(Clone, Copy; A)]
+pub(crate) struct Flags<A> {
+    pub(crate) of: A,
+    pub(crate) set: NumberTest,
+}
+
+impl<A: Lanes> Lanes for Flags<A> {
+    ghost count = { λ flags. A.count flags.of };
+
+    ghost number = { λ flags old lane. flag_of (holds flags.set (A.number flags.of old lane)) };
+
+    fn get(self, lane: usize, old: i64) -> i64 {
+        flag(self.set.holds(self.of.get(lane, old)))
     }
 }

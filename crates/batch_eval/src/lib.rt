@@ -38,6 +38,7 @@ mod lane_items;
 mod lanes;
 mod listing;
 mod loops;
+mod lying;
 mod multiply;
 mod number_test;
 mod operands;

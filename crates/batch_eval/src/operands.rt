@@ -2,19 +2,22 @@
 
 ghost use Rattle.batch_eval.specs.Batches.{holds};
 ghost use Rattle.batch_eval.specs.Lanes.{HasBeside, HasBranch, HasHeld, Reaches, at, beside_value, branch_at, held_at};
-ghost use Rattle.batch_eval.specs.Lanes.{is_set, step_value};
-ghost use Rattle.std.specs.Prelude.{◌≡◌, ◌<◌, ◌≤◌, ℕ, IsTrue, Ok, length, if◌then◌else◌};
+ghost use Rattle.batch_eval.specs.Choices.{connected_flag, lane_passes};
+ghost use Rattle.batch_eval.specs.Lanes.{flag_of, step_value};
+ghost use Rattle.std.specs.Prelude.{◌≡◌, ◌<◌, ◌≤◌, ◌≤ℤ◌, ℕ, IsTrue, Ok, length, if◌then◌else◌};
 
 use crate::choose::select;
-use crate::exact::lanes_pass;
+use crate::exact::{lanes_pass, lanes_within};
+use crate::flag::{BothSet, EitherSet};
 use crate::kernel::{
     Add, And, First, Kernel, Or, ShiftLeft, ShiftRight, ShiftRightUnsigned, Subtract, Swapped, Xor,
 };
-use crate::lanes::{Lanes, Number, Register, Stepped};
+use crate::lanes::{Flags, Lanes, Number, Own, Register, Stepped};
 use crate::loops::run;
 use crate::multiply::MultiplyByHalf;
 use crate::number_test::NumberTest;
 use crate::reached::Reached;
+use lambda_values::Connective;
 use std::marker::PhantomData;
 
 /// An operand that is held in a register: in the one that the result goes to, or in another one.
@@ -66,6 +69,14 @@ pub(crate) enum Beside<'a> {
 pub(crate) enum Branch<'a> {
     Number(i64),
     Register(&'a [i64], Step),
+}
+
+/// A test of numbers that lie in a register, after a step.
+#[derive(Clone, Copy)]
+pub(crate) struct LaneTest<'a> {
+    pub(crate) xs: &'a [i64],
+    pub(crate) step: Step,
+    pub(crate) set: NumberTest,
 }
 
 /// Does this with lanes after a step.
@@ -139,35 +150,115 @@ pub(crate) fn by_step<K: Kernel, A: Lanes, B: Lanes>(
     after_step!(step, A, a, lanes => run::<K, _, B>(lanes, b, live, out))
 }
 
-/// One branch into the lanes whose flag is set, and another one into the others.
-pub(crate) fn blend(flags: &[i64], one: Branch<'_>, other: Branch<'_>, live: usize, out: &mut [i64])
-    requires flags { live ≤ length flags.now }
+/// Whether each of these numbers after a step is within two bounds.
+pub(crate) fn steps_within(xs: &[i64], step: Step, bounds: (i64, i64), live: usize) -> bool
+    requires { live ≤ length xs.now }
+    ensures { IsTrue result → (k : ℕ) → k < live
+        → (bounds.0 ≤ℤ step_value step (at xs.now k)) × (step_value step (at xs.now k) ≤ℤ bounds.1) }
+{
+    after_step!(step, Register<'_>, Register(xs), lanes => lanes_within(lanes, bounds, live, xs))
+}
+
+/// What a test says of an operand after a step, as flags.
+pub(crate) fn flag_held(
+    held: Held<'_>,
+    step: Step,
+    set: NumberTest,
+    live: usize,
+    out: &mut [i64],
+) -> Reached
+    requires held { HasHeld held live }
+    requires out { live ≤ length out.old }
+    ensures { Reaches (λ k. Ok (flag_of (holds set (step_value step (held_at held.entry out.old k)))))
+        (at out.new) live result }
+{
+    match held {
+        Held::Out => flag_lanes::<Own>(Own, step, set, live, out),
+        Held::Register(xs) => flag_lanes::<Register<'_>>(Register(xs), step, set, live, out),
+    }
+}
+
+/// What a test says of lanes after a step, as flags.
+fn flag_lanes<A: Lanes>(a: A, step: Step, set: NumberTest, live: usize, out: &mut [i64]) -> Reached
+    requires a { live ≤ A.count a }
+    requires out { live ≤ length out.old }
+    ensures { Reaches (λ k. Ok (flag_of (holds set (step_value step (A.number a (at out.old k) k)))))
+        (at out.new) live result }
+{
+    after_step!(step, A, a, lanes => run::<First, _, Number>(Flags { of: lanes, set }, Number(0), live, out))
+}
+
+/// Flags and a test of other numbers, connected.
+pub(crate) fn connect(
+    connective: Connective,
+    right: LaneTest<'_>,
+    live: usize,
+    out: &mut [i64],
+) -> Reached
+    requires right { live ≤ length right.xs.now }
+    requires out { live ≤ length out.old }
+    ensures { Reaches (λ k. Ok (connected_flag connective (at out.old k) (lane_passes right.entry k)))
+        (at out.new) live result }
+{
+    match connective {
+        Connective::And => connect_by::<BothSet>(right, live, out),
+        Connective::Or => connect_by::<EitherSet>(right, live, out),
+    }
+}
+
+/// An operator between flags and what a test says of other numbers.
+fn connect_by<K: Kernel>(right: LaneTest<'_>, live: usize, out: &mut [i64]) -> Reached
+    requires right { live ≤ length right.xs.now }
+    requires out { live ≤ length out.old }
+    ensures { Reaches (λ k. K.value (at out.old k) (flag_of (lane_passes right.entry k))) (at out.new) live result }
+{
+    let LaneTest { xs, step, set } = right;
+    after_step!(step, Register<'_>, Register(xs), lanes => run::<K, Own, _>(Own, Flags { of: lanes, set }, live, out))
+}
+
+/// One branch into the lanes whose number passes a test, and another one into the others.
+pub(crate) fn blend(
+    xs: &[i64],
+    set: NumberTest,
+    one: Branch<'_>,
+    other: Branch<'_>,
+    live: usize,
+    out: &mut [i64],
+)
+    requires xs { live ≤ length xs.now }
     requires one { HasBranch one live }
     requires other { HasBranch other live }
     requires out { live ≤ length out.old }
     ensures { (k : ℕ) → k < live → at out.new k
-        ≡ (if is_set (at flags.now k) then branch_at one.entry k else branch_at other.entry k) }
+        ≡ (if holds set (at xs.now k) then branch_at one.entry k else branch_at other.entry k) }
 {
     match one {
-        Branch::Number(number) => blend_with(flags, Number(number), other, live, out),
-        Branch::Register(xs, step) => {
-            after_step!(step, Register<'_>, Register(xs), lanes => blend_with(flags, lanes, other, live, out))
+        Branch::Number(number) => blend_with(xs, set, Number(number), other, live, out),
+        Branch::Register(ys, step) => {
+            after_step!(step, Register<'_>, Register(ys), lanes => blend_with(xs, set, lanes, other, live, out))
         }
     }
 }
 
-fn blend_with<A: Lanes>(flags: &[i64], a: A, other: Branch<'_>, live: usize, out: &mut [i64])
-    requires flags { live ≤ length flags.now }
+fn blend_with<A: Lanes>(
+    xs: &[i64],
+    set: NumberTest,
+    a: A,
+    other: Branch<'_>,
+    live: usize,
+    out: &mut [i64],
+)
+    requires xs { live ≤ length xs.now }
     requires a { live ≤ A.count a }
     requires other { HasBranch other live }
     requires out { live ≤ length out.old }
     ensures { (k : ℕ) → k < live → at out.new k
-        ≡ (if is_set (at flags.now k) then A.number a (at out.old k) k else branch_at other.entry k) }
+        ≡ (if holds set (at xs.now k) then A.number a (at out.old k) k else branch_at other.entry k) }
 {
     match other {
-        Branch::Number(number) => select(flags, a, Number(number), live, out),
-        Branch::Register(xs, step) => {
-            after_step!(step, Register<'_>, Register(xs), lanes => select(flags, a, lanes, live, out))
+        Branch::Number(number) => select(xs, set, a, Number(number), live, out),
+        Branch::Register(ys, step) => {
+            after_step!(step, Register<'_>, Register(ys), lanes => select(xs, set, a, lanes, live, out))
         }
     }
 }

@@ -33,7 +33,7 @@ fn distance(exponent: i64) -> u32
 }
 
 /// The bits below a power of two.
-fn mask(exponent: i64) -> u64
+pub(crate) fn mask(exponent: i64) -> u64
     ensures { result ≡ power exponent - 1 }
 {
     (1u64 << distance(exponent)) - 1

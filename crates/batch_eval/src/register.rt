@@ -1,6 +1,8 @@
 //! The values of an expression at the lanes of a batch: one loop per operator of the expression.
 
-ghost use Rattle.batch_eval.specs.Lanes.{HasBranch, HasHeld, Reaches, at, branch_at, flagged, held_at, infix_value};
+ghost use Rattle.batch_eval.specs.Batches.{holds};
+ghost use Rattle.batch_eval.specs.Lanes.{HasBranch, HasHeld, Reaches, at, branch_at, flag_of, flagged, held_at};
+ghost use Rattle.batch_eval.specs.Lanes.{infix_value};
 ghost use Rattle.batch_eval.specs.Rooms.{Fits, FitsBoth, FitsOperand, FitsTest};
 ghost use Rattle.batch_eval.specs.Rows.{HasRows, row_at};
 ghost use Rattle.batch_eval.specs.Choices.{at_each, between, operand_value};
@@ -9,7 +11,7 @@ ghost use Rattle.lambda_values.specs.Earlier.{cell_at};
 ghost use Rattle.lambda_values.specs.Operators.{on};
 ghost use Rattle.lambda_values.specs.Term.{long_of, truth_of};
 ghost use Rattle.lambda_values.specs.Value.{long_value, truth_value};
-ghost use Rattle.std.specs.Prelude.{◌≡◌, ◌<◌, ◌≤◌, ℕ, IfSome, Ok, length};
+ghost use Rattle.std.specs.Prelude.{◌≡◌, ◌≤◌, Ok, length};
 
 use crate::choice::eval_chosen;
 use crate::constant::number_in;
@@ -18,10 +20,12 @@ use crate::flag::flag;
 use crate::kernel::{Equal, First, Infix};
 use crate::lanes::{Number, Own, Register};
 use crate::loops::run;
-use crate::operands::{Beside, Branch, Held, Step, fill};
+use crate::lying::{connected_lanes, lying};
+use crate::number_test::NumberTest;
+use crate::operands::{Beside, Branch, Held, Step, connect, fill, flag_held};
 use crate::reached::{Reached, all};
 use crate::rows::{Rows, cells_in_place, gather_cells, number_rows};
-use crate::step::{last_step, no_step};
+use crate::step::{last_step, masked_with, no_step};
 use lambda_values::{BoolExpr, Connective, Env, LongExpr, LongPair};
 
 /// The most lanes of a batch, and the length of a register.
@@ -91,15 +95,38 @@ pub(crate) fn eval_long(
     }
 }
 
-/// Puts the booleans of a test into a register as flags, up to its first fault.
+/// Puts the booleans of a test into a register as flags, up to its first fault. Where its last part compares numbers as
+/// they lie with a number, it takes no loop but the one that connects both parts.
 #[cycle(register)]
-#[tactic(auto, using(crate::proofs::FlagLemmas::flagged_between, crate::proofs::FlagLemmas::flagged_opposite, crate::proofs::FlagLemmas::flagged_chosen))]
 pub(crate) fn eval_bool(
     test: &BoolExpr,
     inputs: Inputs<'_, '_>,
     out: &mut [i64],
     room: &mut [i64],
 ) -> Reached
+    requires lanes { inputs.live ≤ 1024 }
+    requires xs { inputs.live ≤ length inputs.xs.now }
+    requires rows { HasRows inputs.rows inputs.live }
+    requires out { inputs.live ≤ length out.old }
+    requires room { FitsTest (truth_of test.now) (length room.old) }
+    ensures { Reaches (at_each inputs.entry (λ x env. flagged (truth_value (truth_of test.now) x env)))
+        (at out.new) inputs.entry.live result }
+{
+    if let Some((left, set)) = masked_with(test, inputs.env) {
+        return eval_flags(left, set, inputs, out, room);
+    }
+    if let Some(connected) = connected_lanes(test, inputs) {
+        let (_, rest) = room.split_at_mut(LANES);
+        let first = eval_bool(connected.left, inputs, out, rest);
+        return connect(connected.connective, connected.right, first.live, out).after(first);
+    }
+    eval_truth(test, inputs, out, room)
+}
+
+/// Puts the booleans of a test into a register as flags, up to its first fault, part by part.
+#[cycle(register)]
+#[tactic(auto, using(crate::proofs::FlagLemmas::flagged_between, crate::proofs::FlagLemmas::flagged_opposite, crate::proofs::FlagLemmas::flagged_chosen))]
+fn eval_truth(test: &BoolExpr, inputs: Inputs<'_, '_>, out: &mut [i64], room: &mut [i64]) -> Reached
     requires lanes { inputs.live ≤ 1024 }
     requires xs { inputs.live ≤ length inputs.xs.now }
     requires rows { HasRows inputs.rows inputs.live }
@@ -134,6 +161,28 @@ pub(crate) fn eval_bool(
             room,
         ),
     }
+}
+
+/// What a test says of an expression, as flags, up to its first fault.
+#[cycle(register)]
+fn eval_flags(
+    expr: &LongExpr,
+    set: NumberTest,
+    inputs: Inputs<'_, '_>,
+    out: &mut [i64],
+    room: &mut [i64],
+) -> Reached
+    requires lanes { inputs.live ≤ 1024 }
+    requires xs { inputs.live ≤ length inputs.xs.now }
+    requires rows { HasRows inputs.rows inputs.live }
+    requires out { inputs.live ≤ length out.old }
+    requires room { Fits (long_of expr.now) (length room.old) }
+    ensures { Reaches (at_each inputs.entry (λ x env. on (long_value (long_of expr.now) x env)
+        (λ v. Ok (flag_of (holds set v))))) (at out.new) inputs.entry.live result }
+{
+    let last = last_step(expr, inputs.env);
+    let (held, first) = eval_held(last.of, inputs, out, room);
+    flag_held(held, last.step, set, first.live, out).after(first)
 }
 
 /// What a condition may choose, in a register.
@@ -265,24 +314,6 @@ fn eval_before_number(
     let (held, first) = eval_held(last.of, inputs, out, room);
     let beside = Beside::Number(last.step, y);
     by_infix(op, held, beside, first.live, out).after(first)
-}
-
-/// The numbers of an operand, where they lie: the items, or the cells of rows that count up.
-fn lying<'a>(expr: &LongExpr, inputs: Inputs<'a, '_>) -> Option<&'a [i64]>
-    requires xs { inputs.live ≤ length inputs.xs.now }
-    requires rows { HasRows inputs.rows inputs.live }
-    ensures lanes { IfSome result (λ xs. inputs.entry.live ≤ length xs.now) }
-    ensures values { IfSome result (λ xs. (k : ℕ) → k < inputs.entry.live
-        → at_each inputs.entry (long_value (long_of expr.now)) k ≡ Ok (at xs.now k)) }
-{
-    match expr {
-        LongExpr::Parameter(_) => Some(inputs.xs),
-        LongExpr::Cell(name) => {
-            let cells = inputs.env.cells(name.as_slice())?;
-            cells_in_place(cells, inputs.rows, inputs.live)
-        }
-        _ => None,
-    }
 }
 
 /// Puts the cells of the column with this name into a register.

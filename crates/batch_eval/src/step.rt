@@ -2,19 +2,23 @@
 
 ghost use Rattle.batch_eval.specs.Batches.{holds};
 ghost use Rattle.batch_eval.specs.Lanes.{step_value};
-ghost use Rattle.batch_eval.specs.NumberTests.{masked};
+ghost use Rattle.batch_eval.specs.NumberTests.{seen_of};
+ghost use Rattle.batch_eval.specs.Powers.{power};
 ghost use Rattle.batch_eval.specs.Rooms.{Fits, FitsTest, size};
-ghost use Rattle.lambda_values.specs.Operators.{binary_value, on};
+ghost use Rattle.lambda_values.specs.Operators.{binary_value, comparison_value, on, remainder};
 ghost use Rattle.lambda_values.specs.Term.{long_of, truth_of};
+ghost use Rattle.lambda_values.specs.declared.expr.BoolExpr.{size-BoolExpr};
 ghost use Rattle.lambda_values.specs.declared.item.Item.{Item};
 ghost use Rattle.lambda_values.specs.Value.{long_value, truth_value};
-ghost use Rattle.std.specs.Prelude.{◌≡◌, ◌≤◌, ℕ, ℤ, IfSome, Ok};
+ghost use Rattle.std.specs.Ordering.{int_eq};
+ghost use Rattle.std.specs.Prelude.{◌≡◌, ◌<◌, ◌≤◌, ℕ, ℤ, pos, true, IfSome, Ok};
 
 use crate::constant::number_in;
 use crate::multiply::is_half;
-use crate::number_test::NumberTest;
+use crate::number_test::{NumberTest, Seen};
 use crate::operands::Step;
-use lambda_values::{BinaryOperator, BoolExpr, Env, LongExpr};
+use crate::power::exponent_of;
+use lambda_values::{BinaryOperator, BoolExpr, Comparison, Env, LongExpr};
 
 /// An expression without its last operator, and that operator as a step; or the whole expression.
 #[derive(Clone, Copy)]
@@ -72,31 +76,97 @@ fn step_of(operator: BinaryOperator, number: i64) -> Option<Step>
     }
 }
 
-/// A test as a comparison of an expression with a number. If its last operator is an `&` with a number, this one is the
-/// mask, and the expression is without it.
+/// A test as a comparison of an expression with a number. Its last operator is what the comparison sees, if it is an
+/// `&` with a number, or a `%` by a power of two that is compared with 0; the expression is without it.
 pub(crate) fn compared_with<'a>(test: &'a BoolExpr, env: &Env) -> Option<(&'a LongExpr, NumberTest)>
     ensures value { IfSome result (λ parts. (x : Item) → truth_value (truth_of test.now) x env.now
         ≡ on (long_value (long_of parts.0.now) x env.now) (λ v. Ok (holds parts.1 v))) }
     ensures room { IfSome result (λ parts. (room : ℕ) → FitsTest (truth_of test.now) room
         → Fits (long_of parts.0.now) room) }
+    ensures size { IfSome result (λ parts. size parts.0.now < size-BoolExpr test.now) }
 {
     let BoolExpr::Compare(comparison, pair) = test else {
         return None;
     };
     let number = number_in(&pair.right, env)?;
-    let (of, mask) = unmasked(&pair.left, env);
-    Some((of, NumberTest::new(mask, *comparison, number)?))
+    let (of, seen) = seen_by(*comparison, &pair.left, number, env);
+    Some((of, NumberTest::new(seen, *comparison, number)?))
 }
 
-/// An expression without a last `&` with a number, and this number; or the whole expression.
-fn unmasked<'a>(expr: &'a LongExpr, env: &Env) -> (&'a LongExpr, Option<i64>)
-    ensures value { (x : Item) → long_value (long_of expr.now) x env.now
-        ≡ on (long_value (long_of result.0.now) x env.now) (λ v. Ok (masked result.1 v)) }
+/// A test as a comparison of what it sees of an expression with a number, if it doesn't see all.
+pub(crate) fn masked_with<'a>(test: &'a BoolExpr, env: &Env) -> Option<(&'a LongExpr, NumberTest)>
+    ensures value { IfSome result (λ parts. (x : Item) → truth_value (truth_of test.now) x env.now
+        ≡ on (long_value (long_of parts.0.now) x env.now) (λ v. Ok (holds parts.1 v))) }
+    ensures room { IfSome result (λ parts. (room : ℕ) → FitsTest (truth_of test.now) room
+        → Fits (long_of parts.0.now) room) }
+    ensures size { IfSome result (λ parts. size parts.0.now < size-BoolExpr test.now) }
+{
+    let compared = compared_with(test, env)?;
+    if compared.1.sees_all() {
+        return None;
+    }
+    Some(compared)
+}
+
+/// What a comparison with a number sees of an expression, and this without what is seen.
+fn seen_by<'a>(
+    comparison: Comparison,
+    expr: &'a LongExpr,
+    number: i64,
+    env: &Env,
+) -> (&'a LongExpr, Seen)
+    ensures value { (x : Item) → on (long_value (long_of expr.now) x env.now)
+        (λ v. Ok (comparison_value comparison v number)) ≡ on (long_value (long_of result.0.now) x env.now)
+        (λ v. Ok (comparison_value comparison (seen_of result.1 v) number)) }
     ensures room { (room : ℕ) → Fits (long_of expr.now) room → Fits (long_of result.0.now) room }
+    ensures size { size result.0.now ≤ size expr.now }
+{
+    if number == 0 && tells_zero(comparison) {
+        if let Some((dividend, exponent)) = rest_by_power(expr, env) {
+            return (dividend, Seen::Rest(exponent));
+        }
+    }
+    unmasked(expr, env)
+}
+
+/// Whether a comparison with 0 has one answer for all other numbers.
+fn tells_zero(comparison: Comparison) -> bool
+    ensures { result ≡ true → (v w : ℤ) → int_eq v (pos 0) ≡ int_eq w (pos 0)
+        → comparison_value comparison v (pos 0) ≡ comparison_value comparison w (pos 0) }
+{
+    match comparison {
+        Comparison::Equal => true,
+        Comparison::NotEqual => true,
+        _ => false,
+    }
+}
+
+/// The dividend and the exponent of a `%` by a power of two.
+fn rest_by_power<'a>(expr: &'a LongExpr, env: &Env) -> Option<(&'a LongExpr, i64)>
+    ensures value { IfSome result (λ parts. (x : Item) → long_value (long_of expr.now) x env.now
+        ≡ on (long_value (long_of parts.0.now) x env.now) (λ v. remainder v (pos (power parts.1)))) }
+    ensures room { IfSome result (λ parts. (room : ℕ) → Fits (long_of expr.now) room
+        → Fits (long_of parts.0.now) room) }
+    ensures size { IfSome result (λ parts. size parts.0.now ≤ size expr.now) }
+{
+    let LongExpr::Binary(BinaryOperator::Remainder, pair) = expr else {
+        return None;
+    };
+    let divisor = number_in(&pair.right, env)?;
+    let exponent = exponent_of(divisor)?;
+    Some((&pair.left, exponent))
+}
+
+/// An expression without a last `&` with a number, and what that leaves to see; or the whole expression.
+fn unmasked<'a>(expr: &'a LongExpr, env: &Env) -> (&'a LongExpr, Seen)
+    ensures value { (x : Item) → long_value (long_of expr.now) x env.now
+        ≡ on (long_value (long_of result.0.now) x env.now) (λ v. Ok (seen_of result.1 v)) }
+    ensures room { (room : ℕ) → Fits (long_of expr.now) room → Fits (long_of result.0.now) room }
+    ensures size { size result.0.now ≤ size expr.now }
 {
     let last = last_step(expr, env);
     match last.step {
-        Step::And(mask) => (last.of, Some(mask)),
-        _ => (expr, None),
+        Step::And(mask) => (last.of, Seen::Masked(mask)),
+        _ => (expr, Seen::All),
     }
 }

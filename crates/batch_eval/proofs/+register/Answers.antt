@@ -1,18 +1,31 @@
-use Rattle.std.proofs.Common.{◌≡◌, ◌∙◌, ◌-◌, ◌<◌, ℕ, ℤ, Bool, true, false, Result, length, get_or, ap, sym, subst}
+use Rattle.std.proofs.Common.{◌≡◌, ◌∙◌, ◌-◌, ◌<◌, ℕ, ℤ, Bool, true, false, Result, Ok, length, get_or, ap, sym, subst}
 use Rattle.std.proofs.Common.{eqb-true, rules, arith}
 use Rattle.std.specs.Int.{w64, cast_unsigned}
 use Rattle.lambda_values.specs.declared.fault.FaultKind.{FaultKind}
-use Rattle.lambda_values.specs.Term.{truth_of}
-use Rattle.lambda_values.specs.Value.{truth_value}
+use Rattle.lambda_values.specs.Term.{Truth, truth_of}
+use Rattle.lambda_values.specs.Value.{chosen, truth_value}
+use Rattle.batch_eval.specs.declared.operands.Step.{Step}
 use Rattle.batch_eval.specs.declared.register.Operand.{Operand}
-use Rattle.batch_eval.specs.Batches.{wanted}
-use Rattle.batch_eval.specs.Choices.{lane_item, operand_value}
-use Rattle.batch_eval.specs.Lanes.{at, branch_at}
-use Rattle.batch_eval.specs.Rooms.{FitsOperand}
+use Rattle.batch_eval.specs.Batches.{holds, wanted}
+use Rattle.lambda_values.specs.Operators.{on}
+use Rattle.batch_eval.specs.Choices.{chosen_value, connected_flag, lane_item, lane_passes, operand_value}
+use Rattle.batch_eval.specs.Lanes.{after, at, branch_at, flagged, step_value}
+use Rattle.batch_eval.specs.Rooms.{FitsChosen, FitsOperand, FitsParted}
 use Rattle.batch_eval.specs.Rows.{row_at}
-use Rattle.batch_eval.proofs.ChoiceLemmas.{by_flag_ones, chosen_everywhere, chosen_reaches, parted_reaches}
+use Rattle.batch_eval.proofs.ChoiceLemmas.{chosen_ones, chosen_everywhere, chosen_reaches, parted_reaches}
 use Rattle.batch_eval.proofs.RowLemmas.{fewer_rows}
+use Rattle.batch_eval.proofs.Steps.{Reaches_on, Reaches_same}
 use Rattle.batch_eval.proofs.+register.Goals as goal
+
+-- what is left for two operands after a register of flags
+parted_fits : (c : Truth) (a b : Operand) (room rest : ℕ) → rest ≡ room - 1024 → FitsChosen c a b room
+    → FitsParted a b rest
+parted_fits c a b room rest is fits =
+    let same : rest - 3072 ≡ room - 4096 = omega (arith, is) in (
+      omega (arith, is, fits.0),
+      subst (FitsOperand a) (sym same) fits.2,
+      subst (FitsOperand b) (sym same) fits.3,
+    )
 
 pub choice::eval_chosen-returns : goal.choice::eval_chosen-returns
 choice::eval_chosen-returns m c =
@@ -30,9 +43,11 @@ choice::eval_chosen-returns-then-eval_both m c =
     let t : ℕ → Result Bool FaultKind = λ k. truth_value (truth_of c.args.condition.now) (lane_item c.args.inputs k)
     env in
     let value : Operand → ℕ → Result ℤ FaultKind = λ e k. operand_value e (lane_item c.args.inputs k) env in
-    rw (c.after.ensures, c.all.ensures) (chosen_everywhere t (value c.args.a) (value c.args.b)
+    rw (c.after.ensures, c.all-then-eval_both.ensures) (chosen_everywhere t (value c.args.a) (value c.args.b)
     c.eval_bool-tested.new.out c.eval_both.new.out c.args.inputs.live c.eval_bool-tested.result
-    c.eval_bool-tested.ensures (c.eval_both.ensures c.if-eval_both.true))
+    c.eval_bool-tested.ensures (λ k below. ap (λ p. chosen p (value c.args.a k) (value c.args.b k))
+    (sym (c.is_set.ensures (at c.eval_bool-tested.new.out k)))
+    ∙ c.eval_both.ensures c.if-eval_both.true k below))
 
 pub choice::eval_both-returns-then-first-inputs : goal.choice::eval_both-returns-then-first-inputs
 choice::eval_both-returns-then-first-inputs m c = λ is k below.
@@ -42,7 +57,7 @@ choice::eval_both-returns-then-first-inputs m c = λ is k below.
     let other = c.eval_branch-2.result in
     let all : one.1.live ≡ c.args.inputs.live = c.if-first-inputs.true in
     let both : other.1.live ≡ c.args.inputs.live = eqb-true other.1.live c.args.inputs.live is in
-    by_flag_ones (at c.args.flags.now k) (branch_at one.0 k) (branch_at other.0 k) (at c.blend.new.out k)
+    chosen_ones (holds c.args.set (at c.args.xs.now k)) (branch_at one.0 k) (branch_at other.0 k) (at c.blend.new.out k)
     (operand_value c.args.a x env) (operand_value c.args.b x env) (c.blend.ensures k below)
     (c.eval_branch.ensures.reached.values k (omega (arith, all, below)))
     (c.eval_branch-2.ensures.reached.values k (omega (arith, both, below)))
@@ -208,6 +223,82 @@ register::eval_between-eval_long-second-requires t c =
           (
             fewer_rows c.args.inputs.rows c.eval_held-2.result.1.live c.args.inputs.live first c.requires.rows,
             (search rules, search rules),
+          ),
+        ),
+      ),
+    )
+
+pub register::eval_bool-returns-in-Some-connected_lanes : goal.register::eval_bool-returns-in-Some-connected_lanes
+register::eval_bool-returns-in-Some-connected_lanes m c =
+    let env = c.args.inputs.env.now in
+    let parts = c.in-Some-connected_lanes.connected in
+    let whole : ℕ → Result ℤ FaultKind =
+    λ k. flagged (truth_value (truth_of c.args.test.now) (lane_item c.args.inputs k) env) in
+    let left : ℕ → Result ℤ FaultKind =
+    λ k. flagged (truth_value (truth_of parts.left.now) (lane_item c.args.inputs k) env) in
+    let next : ℕ → ℤ → Result ℤ FaultKind = λ k z. Ok (connected_flag parts.connective z (lane_passes parts.right k)) in
+    rw c.after.ensures (Reaches_same (λ k. on (left k) (next k)) whole (at c.connect.new.out) c.args.inputs.live
+    (after c.connect.result c.eval_bool-first.result)
+    (λ k below. sym (c.in-Some-connected_lanes.ensures.value k below))
+    (Reaches_on left next (at c.eval_bool-first.new.out) (at c.connect.new.out) c.args.inputs.live
+    c.eval_bool-first.result c.connect.result c.eval_bool-first.ensures c.connect.ensures))
+
+pub choice::eval_tested-returns : goal.choice::eval_tested-returns
+choice::eval_tested-returns m c = λ is k below.
+    let x = lane_item c.args.inputs k in
+    let env = c.args.inputs.env.now in
+    let test = c.in-Some.test in
+    let still : lane_passes test k ≡ holds test.set (at test.xs.now k) =
+    ap (λ (s : Step). holds test.set (step_value s (at test.xs.now k))) c.in-Stay.is in
+    ap (λ (t : Result Bool FaultKind). chosen_value t (operand_value c.args.a x env) (operand_value c.args.b x env))
+    (c.in-Some.ensures.passes k below ∙ ap Ok still) ∙ c.eval_both.ensures is k below
+
+pub choice::eval_chosen-eval_both-requires : goal.choice::eval_chosen-eval_both-requires
+choice::eval_chosen-eval_both-requires t c =
+    let d = c.decreases in
+    let within = c.eval_bool-tested.ensures.within in
+    let len : length c.eval_bool-tested.new.room ≡ length c.args.room.now - 1024 = search rules in (
+      omega (arith, d),
+      (
+        omega (arith, within, c.requires.lanes),
+        (
+          search rules,
+          (
+            omega (arith, within, c.requires.xs),
+            (
+              fewer_rows c.args.inputs.rows c.eval_bool-tested.result.live c.args.inputs.live within c.requires.rows,
+              (
+                search rules,
+                parted_fits (truth_of c.args.condition.now) c.args.a c.args.b (length c.args.room.now)
+                    (length c.eval_bool-tested.new.room) len c.requires.room,
+              ),
+            ),
+          ),
+        ),
+      ),
+    )
+
+pub choice::eval_chosen-eval_parted-requires : goal.choice::eval_chosen-eval_parted-requires
+choice::eval_chosen-eval_parted-requires t c =
+    let d = c.decreases in
+    let within = c.eval_bool-tested.ensures.within in
+    let len : length c.eval_both.new.room ≡ length c.args.room.now - 1024 = search rules in (
+      omega (arith, d),
+      (
+        omega (arith, within, c.requires.lanes),
+        (
+          search rules,
+          (
+            omega (arith, within, c.requires.xs),
+            (
+              fewer_rows c.args.inputs.rows c.eval_bool-tested.result.live c.args.inputs.live within c.requires.rows,
+              (
+                search rules,
+                parted_fits (truth_of c.args.condition.now) c.args.a c.args.b (length c.args.room.now)
+                    (length c.eval_both.new.room) len
+                    c.requires.room,
+              ),
+            ),
           ),
         ),
       ),

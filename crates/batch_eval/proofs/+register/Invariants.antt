@@ -13,31 +13,40 @@ size (operand.Flag b) = 0
 
 -- an operator's operands are called between it and them
 abbrev pub decreases-register::eval_long : goal.decreases-register::eval_long
-decreases-register::eval_long l = 4 * size-LongExpr l.expr.now
+decreases-register::eval_long l = 8 * size-LongExpr l.expr.now
+
+abbrev pub decreases-register::eval_truth : goal.decreases-register::eval_truth
+decreases-register::eval_truth l = 8 * size-BoolExpr l.test.now
 
 abbrev pub decreases-register::eval_bool : goal.decreases-register::eval_bool
-decreases-register::eval_bool l = 4 * size-BoolExpr l.test.now
+decreases-register::eval_bool l = 8 * size-BoolExpr l.test.now + 1
 
 abbrev pub decreases-register::eval_held : goal.decreases-register::eval_held
-decreases-register::eval_held l = 4 * size-LongExpr l.expr.now + 1
+decreases-register::eval_held l = 8 * size-LongExpr l.expr.now + 1
 
 abbrev pub decreases-register::eval_before_number : goal.decreases-register::eval_before_number
-decreases-register::eval_before_number l = 4 * size-LongExpr l.a.now + 2
+decreases-register::eval_before_number l = 8 * size-LongExpr l.a.now + 2
+
+abbrev pub decreases-register::eval_flags : goal.decreases-register::eval_flags
+decreases-register::eval_flags l = 8 * size-LongExpr l.expr.now + 2
 
 abbrev pub decreases-register::eval_operand : goal.decreases-register::eval_operand
-decreases-register::eval_operand l = 4 * size l.operand + 1
+decreases-register::eval_operand l = 8 * size l.operand + 2
 
 abbrev pub decreases-register::eval_branch : goal.decreases-register::eval_branch
-decreases-register::eval_branch l = 4 * size l.operand + 1
+decreases-register::eval_branch l = 8 * size l.operand + 2
 
 abbrev pub decreases-register::eval_between : goal.decreases-register::eval_between
-decreases-register::eval_between l = 4 * max (size-LongExpr l.pair.now.left) (size-LongExpr l.pair.now.right) + 3
+decreases-register::eval_between l = 8 * max (size-LongExpr l.pair.now.left) (size-LongExpr l.pair.now.right) + 4
 
 abbrev pub decreases-choice::eval_chosen : goal.decreases-choice::eval_chosen
-decreases-choice::eval_chosen l = 4 * max (size-BoolExpr l.condition.now) (max (size l.a) (size l.b)) + 3
+decreases-choice::eval_chosen l = 8 * max (size-BoolExpr l.condition.now) (max (size l.a) (size l.b)) + 5
+
+abbrev pub decreases-choice::eval_tested : goal.decreases-choice::eval_tested
+decreases-choice::eval_tested l = 8 * max (size l.a) (size l.b) + 4
 
 abbrev pub decreases-choice::eval_parted : goal.decreases-choice::eval_parted
-decreases-choice::eval_parted l = 4 * max (size l.a) (size l.b) + 2
+decreases-choice::eval_parted l = 8 * max (size l.a) (size l.b) + 3
 
 abbrev pub decreases-choice::eval_both : goal.decreases-choice::eval_both
-decreases-choice::eval_both l = 4 * max (size l.a) (size l.b) + 2
+decreases-choice::eval_both l = 8 * max (size l.a) (size l.b) + 3

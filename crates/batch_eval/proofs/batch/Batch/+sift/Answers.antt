@@ -1,4 +1,4 @@
-use Rattle.std.proofs.Common.{◌≡◌, ◌≤◌, ℤ, List, add-one, ap, sym, ◌∙◌, subst, rules, arith}
+use Rattle.std.proofs.Common.{◌≡◌, ◌≤◌, ℤ, pos, Bool, if◌then◌else◌, List, add-one, ap, sym, ◌∙◌, subst, rules, arith}
 use Rattle.std.proofs.lemmas.List.{places, with_items_is}
 use Rattle.lambda_values.specs.Term.{long_of, truth_of}
 use Rattle.lambda_values.specs.Value.{long_value, truth_value}
@@ -45,6 +45,9 @@ returns-else-eval_bool-self-clause-walk t c =
     (sym passes_are) here in
     let all : b.live ≤ r.live = omega (arith, c.if-eval_bool-self.false) in
     let step = filter_all b.live b.start b.origins.items b.values.items c.args.flags.now b.end c.args.self.now env
-    c.args.line.first r test passes c.select.new.out reaches all c.select.ensures c.self.view_is in
+    c.args.line.first r test passes c.select.new.out reaches all
+    (λ k below. c.select.ensures k below
+    ∙ ap (λ (p : Bool). if p then at c.args.flags.now k else pos 0) (c.is_set-set.ensures (at passes k)))
+    c.self.view_is in
     let on = rw (step, split.first, split.env, add-one) at c.sift-in-Some-Filter-default.ensures.walk in
     rw (split.stages, c.in-Some-Filter-default.field-0-0-is) on
