@@ -85,14 +85,11 @@ def below_of(top):
     return found
 
 
-def called(top):
-    """Public calls of the libraries that neither a program nor a test makes, directly or through others, as far as names say."""
-    functions, names = functions_of(top)
-    below, of_name = below_of(top), {}
+def reached_from(roots, functions, names, below):
+    """The functions that these call, directly or through others, as far as names say, and they themselves."""
+    of_name, reached, waiting = {}, set(roots), list(roots)
     for it in functions:
         of_name.setdefault(it.name, []).append(it)
-    reached = {it for it in functions if it.is_test or it.name == 'main'}
-    waiting = list(reached)
     while waiting:
         caller = waiting.pop()
         for name in caller.words & of_name.keys():
@@ -103,9 +100,25 @@ def called(top):
                 if it.is_called_by(caller, names.get(it.type, {it.type}), is_alone):
                     reached.add(it)
                     waiting.append(it)
+    return reached
+
+
+def called(top):
+    """Public calls of the libraries that neither a program nor a test makes, and those that nothing in a program names and
+    promises.md doesn't list as calls for other programs."""
+    functions, names = functions_of(top)
+    below, mains = below_of(top), [it for it in functions if it.name == 'main']
+    of_all = reached_from(mains + [it for it in functions if it.is_test], functions, names, below)
+    named = set().union(*(it.words for it in reached_from(mains, functions, names, below)))
+    listed = {crate.strip('`'): TICKED.findall(calls) for crate, calls in rows_of(section(top, 'Calls for other programs'))}
     for it in functions:
-        if it.is_public and it not in reached and not it.is_law:
+        if not it.is_public or it.is_law or it.crate.startswith('test_'):
+            continue
+        words = listed.get(it.crate, [it.crate])
+        if it not in of_all:
             yield f'neither the program nor a test calls {it.shown()}'
+        elif it.name not in named and words and {it.name, it.type, f'{it.type}::{it.name}'}.isdisjoint(words):
+            yield f'promises.md: {it.shown()} is called by no program, and is not among the calls for other programs'
 
 
 def section(top, title):

@@ -122,7 +122,7 @@ impl<'a, T: PartValue, C: Continuation<T>> Tree<'a, Handed<T>, Completer<T, C>> 
     }
 
     /// Runs one of the node's two continuations, and hands the answer in at the parent (Java: `nextComplete`). At the
-    /// top of a tree the answer is the tree's result. For other programs: `streamrun` climbs by `try_complete`.
+    /// top of a tree the answer is the tree's result. For other programs: `streamrun` climbs by `try_complete_with`.
     pub fn next_complete(
         &self,
         seat: TreeSeat<T, C>,
@@ -174,6 +174,7 @@ impl<'a, T: PartValue, C: Continuation<T>> Tree<'a, Handed<T>, Completer<T, C>> 
 
     /// Hands a value in at a place, and goes on upwards while each arrival is the last (Java: `tryComplete`). `Some` is
     /// the result of the whole tree, which is given to one caller only; without a place it is the value itself.
+    /// For other programs: `streamrun` calls `try_complete_with`.
     pub fn try_complete(
         &self,
         seat: TreeSeat<T, C>,
@@ -221,7 +222,7 @@ impl<'a, T: PartValue, C: Continuation<T>> Tree<'a, Handed<T>, Completer<T, C>> 
     }
 
     /// `try_complete` with a failure instead of a value (Java: `completeExceptionally`, which here waits for the other
-    /// arrivals). For other programs: `streamrun` hands a failure in by `try_complete`.
+    /// arrivals). For other programs: `streamrun` hands a failure in by `try_complete_with`.
     pub fn complete_exceptionally(
         &self,
         seat: TreeSeat<T, C>,

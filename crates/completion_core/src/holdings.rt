@@ -69,7 +69,7 @@ impl Holdings {
         }
     }
 
-    /// One more arrival for an actor at each of the nodes.
+    /// One more arrival for an actor at each of the nodes. For other programs, which play the machine.
     pub fn put_all(&mut self, actor: Actor, nodes: &Nodes)
         requires room { length nodes.now ≤ room self.old }
         requires fits { (i : ℕ) → held self.old actor i + count i nodes.now < 2 ^ 64 }

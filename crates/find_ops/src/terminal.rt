@@ -56,7 +56,8 @@ impl FindTerminal {
         }
     }
 
-    /// The decision of the first of these items that decides.
+    /// The decision of the first of these items that decides. For other programs: `streamrun` calls
+    /// `first_decision_after`.
     pub fn first_decision(
         &self,
         stage: u32,
@@ -74,6 +75,7 @@ impl FindTerminal {
     }
 
     /// The decision of the first item that decides among the items of these pieces, one piece after the other.
+    /// For other programs, as `first_decision` is.
     pub fn first_decision_in(
         &self,
         stage: u32,

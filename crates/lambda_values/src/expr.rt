@@ -75,7 +75,7 @@ pub struct BoolChoice {
 }
 
 impl LongExpr {
-    /// The value at a number by itself, as `eval_at` gives it for an item at place 0.
+    /// The value at a number by itself, as `eval_at` gives it for an item at place 0. For other programs.
     pub fn eval(&self, x: i64, env: &Env) -> Result<i64, FaultKind>
         ensures { result ≡ long_value (long_of self.now) (record { origin = 0; value = x }) env.now }
     {
@@ -116,7 +116,7 @@ impl LongExpr {
 }
 
 impl BoolExpr {
-    /// The boolean at a number by itself, as `eval_at` gives it for an item at place 0.
+    /// The boolean at a number by itself, as `eval_at` gives it for an item at place 0. For other programs.
     pub fn eval(&self, x: i64, env: &Env) -> Result<bool, FaultKind>
         ensures { result ≡ truth_value (truth_of self.now) (record { origin = 0; value = x }) env.now }
     {

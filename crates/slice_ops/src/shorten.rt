@@ -9,6 +9,7 @@ use lambda_values::{BoolExpr, Env};
 use trace::{Chunk, End, EndTest, Fault, Item};
 
 /// Keeps the first `n` items and ends done, if there are at least `n`. The answer says whether there are.
+/// For other programs.
 pub fn limit(chunk: &mut Chunk, n: u64) -> bool
     ensures kept { chunk.new ≡ limited n chunk.old }
     ensures enough { result ≡ not (nat_lt (length chunk.old.items) n) }
@@ -20,7 +21,7 @@ pub fn limit(chunk: &mut Chunk, n: u64) -> bool
     enough
 }
 
-/// Removes the first `n` items, or all if there are fewer.
+/// Removes the first `n` items, or all if there are fewer. For other programs.
 pub fn skip(chunk: &mut Chunk, n: u64)
     ensures { chunk.new ≡ skipped n chunk.old }
 {
@@ -29,7 +30,7 @@ pub fn skip(chunk: &mut Chunk, n: u64)
 
 /// Keeps the items before the first one at which the test is false or faults.
 ///
-/// The answer says whether there is one. The stage has this number.
+/// The answer says whether there is one. The stage has this number. For other programs.
 pub fn take_while(chunk: &mut Chunk, stage: u32, test: &BoolExpr, env: &Env) -> bool
     ensures kept { chunk.new ≡ taken (truth_of test.now) stage env.now chunk.old }
     ensures enough { result ≡ is_some (stop_at (front_ends (truth_of test.now) stage env.now) chunk.old.items) }
@@ -37,7 +38,7 @@ pub fn take_while(chunk: &mut Chunk, stage: u32, test: &BoolExpr, env: &Env) -> 
     chunk.keep_until(&FrontTest { stage, test, env })
 }
 
-/// Keeps the items from the first one on at which the test is false, or a fault of the test alone.
+/// Keeps the items from the first one on at which the test is false, or a fault of the test alone. For other programs.
 pub fn drop_while(chunk: &mut Chunk, stage: u32, test: &BoolExpr, env: &Env)
     ensures { chunk.new ≡ dropped (truth_of test.now) stage env.now chunk.old }
 {

@@ -23,7 +23,7 @@ pub enum Slice {
     DropWhile(BoolExpr),
 }
 
-/// What a slice keeps of a piece of a stream.
+/// What a slice keeps of a piece of a stream. For other programs: `streamrun` calls `SliceRest`.
 #[derive(Drop)]
 pub struct SlicePart<'a> {
     slice: &'a Slice,

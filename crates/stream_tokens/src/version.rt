@@ -115,8 +115,8 @@ pub(crate) fn job_lines<'a>(newest: u8, bytes: &'a [u8]) -> LinesLeft<'a>
     after_version(newest, LinesLeft::of(without_mark(bytes))).1
 }
 
-/// The version of the language in which a file is written: 2 if its first line that isn't skipped is
-/// `version 2`, else 1. Reads no further than that line.
+/// The version of the language in which a file is written: 2 if its first line that isn't skipped is `version 2`, else
+/// 1. Reads no further than that line. For other programs: `streamrun` calls `version_within`.
 pub fn version_of(bytes: &[u8]) -> u8
     ensures { result ≡ version_of bytes.now }
 {
