@@ -25,7 +25,7 @@ PREFIXES = [('sum', f'range(0, {COUNT}).prefix(Long::sum).sum()'), ('max', f'ran
 
 
 NUMBERS = {'random': '.map(x -> x * 6364136223846793005 ^ x * 6364136223846793005 >>> 32)',
-           'few': '.map(x -> x * 6364136223846793005 >>> 32 & 1023)', 'ascending': '', 'reversed': '.map(x -> -x)'}
+           'few': '.map(x -> x * 6364136223846793005 >>> 32 & 1023)', 'ascending': '.map(x -> x + 1)', 'reversed': '.map(x -> -x)'}
 QUESTIONS_OF_ORDER = {'limit': 'sorted().limit(10).toArray()', 'middle': 'sorted().skip({}).findFirst()',
                       'distinct': 'distinct().count()'}
 
@@ -107,7 +107,8 @@ def sorting():
     bench/run sorting [--turns N] [--counts N,..] [--kinds random,few,ascending,reversed] [PROGRAM]
 
     It prints wall and processor time in milliseconds of whole processes, Java's in a warm process too, on its own. Rust sorts on one
-    thread by sort_unstable and on four by rayon's par_sort_unstable, or fills sets. `sort` reads the numbers from a file.
+    thread by sort_unstable and on four by rayon's par_sort_unstable, or fills sets. `sort` reads the numbers from a file. Numbers
+    in order come out of a map, since Java doesn't sort a range at all.
     """
     options = options_of(sorting.__doc__, turns=3, counts=['1000000', '10000000'], kinds=list(NUMBERS))
     with tempfile.TemporaryDirectory() as folder:

@@ -9,7 +9,7 @@ public final class Sorting {
             case "random" -> all.map(x -> x * 6364136223846793005L ^ x * 6364136223846793005L >>> 32);
             case "few" -> all.map(x -> (x * 6364136223846793005L >>> 32) & 1023);
             case "reversed" -> all.map(x -> -x);
-            default -> all;
+            default -> all.map(x -> x + 1);
         };
     }
 

@@ -8,7 +8,7 @@ at = numpy.arange(count, dtype=numpy.int64)
 hashes = at * numpy.int64(6364136223846793005)
 numbers = {'random': lambda: hashes ^ (hashes.view(numpy.uint64) >> numpy.uint64(32)).view(numpy.int64),
            'few': lambda: (hashes.view(numpy.uint64) >> numpy.uint64(32)).view(numpy.int64) & 1023,
-           'reversed': lambda: -at, 'ascending': lambda: at}[kind]()
+           'reversed': lambda: -at, 'ascending': lambda: at + 1}[kind]()
 if question == 'distinct':
     print(f'q = {len(numpy.unique(numbers))}')
 else:

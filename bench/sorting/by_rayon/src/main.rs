@@ -8,7 +8,7 @@ fn number(kind: &str, at: i64) -> i64 {
         "random" => hash ^ (hash as u64 >> 32) as i64,
         "few" => (hash as u64 >> 32) as i64 & 1023,
         "reversed" => -at,
-        _ => at,
+        _ => at + 1,
     }
 }
 
