@@ -88,7 +88,7 @@ or_true : (a b : Bool) → b ≡ true → (a || b) ≡ b
 or_true true b h = sym h
 or_true false b h = refl
 
-or_right : (a b : Bool) → b ≡ true → (a || b) ≡ true
+pub or_right : (a b : Bool) → b ≡ true → (a || b) ≡ true
 or_right true b h = refl
 or_right false b h = h
 

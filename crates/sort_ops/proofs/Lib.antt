@@ -10,6 +10,7 @@ pub mod KeptFirstsLemmas
 pub mod LeastLemmas
 pub mod LoopLemmas
 pub mod NewLemmas
+pub mod NotedLemmas
 pub mod OrderLemmas
 pub mod PartLemmas
 pub mod PlaceLemmas

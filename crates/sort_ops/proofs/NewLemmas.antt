@@ -1,6 +1,6 @@
 -- Items whose value came before, and sets that find them.
 use Rattle.std.proofs.Common.{◌≡◌, ◌+◌, ◌≤◌, ◌<◌, ◌*◌, ◌/◌, ◌%◌, ◌^◌, ◌==◌, nat_lt, ℕ, ℤ, Bool, true, false, ◌||◌, cond}
-use Rattle.std.proofs.Common.{int_eq, unsigned_abs, List, [], ◌∷◌, ◌++◌, length, take, drop, get_or, set, Option, None}
+use Rattle.std.proofs.Common.{int_eq, int_lt, slice_index_or, unsigned_abs, List, [], ◌∷◌, ◌++◌, length, take, drop, get_or, set, Option, None}
 use Rattle.std.proofs.Common.{Some, zero, suc, refl, sym, ap, subst, ◌∙◌, arith, append_assoc}
 use Rattle.std.proofs.lemmas.List.{drop_more, drop-set-lt, take_more_set}
 use Rattle.std.proofs.lemmas.Grind.{common_steps}
@@ -8,6 +8,9 @@ use Rattle.std.proofs.lemmas.Bool.{ltb-false, ltb-true}
 use Rattle.std.proofs.lemmas.Nat.{mod_below}
 use Rattle.std.specs.Cmp.{signed_Decides}
 use Rattle.std.specs.HashSet.{contains}
+use Rattle.std.specs.List.{IsAllAdjacentAnswer}
+use Rattle.std.specs.Prelude.{⊤}
+use Rattle.std.proofs.lemmas.Int.{ints}
 use Rattle.lambda_values.specs.declared.item.Item.{Item}
 use Rattle.sort_ops.specs.declared.lookup.Lookup.{Lookup}
 use Rattle.sort_ops.specs.Firsts.{is_among, firsts}
@@ -96,17 +99,6 @@ pub one_once : (c : Option ℕ) (xs : List Item) (x : Item) → AreOnce c xs
     → (is_in c x.value ≡ true → is_among x.value (values_in xs) ≡ false) → AreOnce c (xs ++ x ∷ [])
 one_once = once_before
 
--- a value that an item at a position has
-pub found_among : (xs : List Item) (i : ℕ) (x : Item) (v : ℤ) → i < length xs → x ≡ get_or xs i x
-    → int_eq x.value v ≡ true
-    → is_among v (values_in xs) ≡ true
-found_among [] i x v low is same = absurd (omega arith)
-found_among (y ∷ ys) zero x v low is same =
-    or_left (int_eq v y.value) (is_among v (values_in ys))
-    (swapped v y.value ∙ ap (λ (z : Item). int_eq z.value v) (sym is) ∙ same)
-found_among (y ∷ ys) (suc i) x v low is same =
-    or_right (int_eq v y.value) (is_among v (values_in ys)) (found_among ys i x v (omega arith) is same)
-
 -- fewer items
 fewer_among : (v : ℤ) (xs : List Item) (x : Item) (ys : List Item) → is_among v (values_in (xs ++ x ∷ ys)) ≡ false
     → is_among v (values_in (xs ++ ys)) ≡ false
@@ -186,3 +178,77 @@ pub last_or_before : (k d : ℕ) → d < k + 1 → (P : ℕ → Type 0) → P k 
 last_or_before k d less P last before = by_bool (nat_lt d k)
     (λ h. before (ltb-true d k h))
     (λ h. let not = ltb-false d k h in let is : k ≡ d = omega (arith, less, not) in subst P is last)
+
+-- ---- items that rise, or fall, have different values
+
+less_apart : (a b : ℤ) → int_lt a b ≡ true → int_eq a b ≡ false
+less_apart a b h = grind (arith, ints)
+
+more_apart : (a b : ℤ) → int_lt b a ≡ true → int_eq a b ≡ false
+more_apart a b h = grind (arith, ints)
+
+less_on : (a b c : ℤ) → int_lt a b ≡ true → int_lt b c ≡ true → int_lt a c ≡ true
+less_on a b c h k = grind (arith, ints)
+
+-- an order of values in which no value comes before itself
+record Turns (r : ℤ → ℤ → Bool) : Type 0 where
+  apart : (a b : ℤ) → r a b ≡ true → int_eq a b ≡ false
+  on : (a b c : ℤ) → r a b ≡ true → r b c ≡ true → r a c ≡ true
+
+rising : Turns int_lt
+rising = record { apart = less_apart; on = less_on }
+
+falling : Turns (λ a b. int_lt b a)
+falling = record { apart = more_apart; on = λ a b c h k. less_on c b a k h }
+
+module _ (r : ℤ → ℤ → Bool) (turns : Turns r) where
+  -- each of the items comes after a value
+  abbrev AreAfter : ℤ → List Item → Type 0
+  AreAfter v [] = ⊤
+  AreAfter v (x ∷ xs) = (r v x.value ≡ true) × AreAfter v xs
+
+  still_after : (v w : ℤ) (xs : List Item) → r v w ≡ true → AreAfter w xs → AreAfter v xs
+  still_after v w [] h all = tt
+  still_after v w (x ∷ xs) h all = (turns.on v w x.value h all.0, still_after v w xs h all.1)
+
+  none_after : (v : ℤ) (xs : List Item) → AreAfter v xs → is_among v (values_in xs) ≡ false
+  none_after v [] all = refl
+  none_after v (x ∷ xs) all = ap (λ b. b || is_among v (values_in xs)) (turns.apart v x.value all.0)
+      ∙ none_after v xs all.1
+
+  -- each item but the first one comes after the one before it
+  abbrev InTurn : List Item → Type 0
+  InTurn xs = (k : ℕ) (d : Item) → k + 1 < length xs
+      → r (slice_index_or xs k d).value (slice_index_or xs (k + 1) d).value ≡ true
+
+  tail_in_turn : (x : Item) (xs : List Item) → InTurn (x ∷ xs) → InTurn xs
+  tail_in_turn x xs all k d high =
+      let e : suc k + 1 ≡ suc (k + 1) = omega arith in
+      subst (λ (n : ℕ). r (slice_index_or xs k d).value (slice_index_or (x ∷ xs) n d).value ≡ true) e
+      (all (suc k) d (omega (arith, high)))
+
+  once_from : (x : Item) (xs : List Item) → InTurn (x ∷ xs) → AreAfter x.value xs × AreOnce None (x ∷ xs)
+  once_from x [] all = (tt, (λ h. refl, tt))
+  once_from x (y ∷ ys) all =
+      let later = once_from y ys (tail_in_turn x (y ∷ ys) all) in
+      let next : r x.value y.value ≡ true = all 0 x (omega arith) in
+      let after : AreAfter x.value (y ∷ ys) = (next, still_after x.value y.value ys next later.0) in
+      (after, (λ h. none_after x.value (y ∷ ys) after, later.1))
+
+  once_in_turn : (xs : List Item) → InTurn xs → AreOnce None xs
+  once_in_turn [] all = tt
+  once_in_turn (x ∷ xs) all = (once_from x xs all).1
+
+  -- what std's test says of neighbours
+  once_if_answered : (xs : List Item) (b : Bool)
+      → IsAllAdjacentAnswer (λ (x y : Item) (c : Bool). c ≡ r x.value y.value) xs b → b ≡ true → AreOnce None xs
+  once_if_answered xs false answer is = cc
+  once_if_answered xs true answer is = once_in_turn xs (λ k d high. sym (answer k d high))
+
+pub rising_once : (xs : List Item) (b : Bool)
+    → IsAllAdjacentAnswer (λ (x y : Item) (c : Bool). c ≡ int_lt x.value y.value) xs b → b ≡ true → AreOnce None xs
+rising_once = once_if_answered int_lt rising
+
+pub falling_once : (xs : List Item) (b : Bool)
+    → IsAllAdjacentAnswer (λ (x y : Item) (c : Bool). c ≡ int_lt y.value x.value) xs b → b ≡ true → AreOnce None xs
+falling_once = once_if_answered (λ a b. int_lt b a) falling

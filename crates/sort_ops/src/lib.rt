@@ -22,6 +22,7 @@ mod laws;
 mod lookup;
 mod merging;
 mod new_values;
+mod noted;
 mod placing;
 mod runs;
 mod sorted_part;

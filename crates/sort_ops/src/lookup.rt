@@ -4,7 +4,7 @@ ghost use Rattle.std.specs.Prelude.{◌≡◌, ◌≤◌, [], ◌∷◌, ◌++�
 ghost use Rattle.std.specs.Ordering.{int_eq};
 ghost use Rattle.lambda_values.specs.declared.item.Item.{Item as meant_item};
 ghost use Rattle.sort_ops.specs.Firsts.{firsts, is_among};
-ghost use Rattle.sort_ops.specs.NewValues.{AreOnce, Knows, class_of, is_in};
+ghost use Rattle.sort_ops.specs.NewValues.{AreOnce, Knows, class_of, is_in, spread};
 ghost use Rattle.sort_ops.specs.Parts.{values_in};
 
 use std::alloc::Global;
@@ -17,84 +17,27 @@ const CLASSES: u64 = 16;
 /// It spreads the bits of values that are close together.
 const SPREAD: u64 = 11_400_714_819_323_198_485;
 
-/// How many items there are before positions are noted.
-const FEW: u32 = 64;
-
-/// Positions of items, two at each place that an item's value chooses. Most items of few different values are found so,
-/// in a fraction of the time that a set takes. Any positions are right, since the value there is compared.
-#[derive(Drop)]
-struct Noted {
-    /// Without elements while there are few items, or no memory for them.
-    positions: Vec<[u32; 2]>,
-}
-
-impl Noted {
-    /// How many places there are.
-    const PLACES: usize = 2048;
-
-    /// The place of the positions of items with this value.
-    fn place(value: i64) -> usize {
-        (value.unsigned_abs().wrapping_mul(SPREAD) >> 53) as usize
-    }
-
-    /// Whether one of the items at the positions that were noted for this value has it.
-    fn finds(&self, items: &[Item], value: i64) -> bool
-        ensures { result ≡ true → is_among value (values_in items.now) ≡ true }
-    {
-        match self.positions.get(Noted::place(value)) {
-            Some([last, other]) => { has_at(items, *last, value) || has_at(items, *other, value) }
-            None => false,
-        }
-    }
-
-    /// Notes the position of an item with this value, and forgets the older one of its place.
-    fn note(&mut self, value: i64, position: usize) {
-        let Ok(position) = u32::try_from(position) else {
-            return;
-        };
-        if self.positions.is_empty()
-            && (position < FEW || self.positions.resize(Noted::PLACES, [0; 2]).is_err())
-        {
-            return;
-        }
-        if let Some(noted) = self.positions.get_mut(Noted::place(value)) {
-            *noted = [position, noted[0]];
-        }
-    }
-}
-
-/// Whether there is an item at this position, and has this value.
-fn has_at(items: &[Item], position: u32, value: i64) -> bool
-    ensures { result ≡ true → is_among value (values_in items.now) ≡ true }
+/// The bits of a value, of which those of values that are close together differ at the front.
+pub(crate) fn spread(value: i64) -> u64
+    ensures { result ≡ spread value }
 {
-    match items.get(position as usize) {
-        Some(item) => has_value(*item, value),
-        None => false,
-    }
+    value.unsigned_abs().wrapping_mul(SPREAD)
 }
 
-/// Whether an item has this value.
-fn has_value(item: Item, value: i64) -> bool
-    ensures { result ≡ int_eq item.value value }
-{
-    item.value == value
-}
-
-/// What finds the items whose value came before, of all values or of one class: their noted positions, and a set of all
-/// values, if it isn't partial.
+/// What finds the items whose value came before, of all values or of one class: a set of all values, if it isn't
+/// partial.
 #[derive(Drop)]
 pub(crate) struct Lookup {
     class: Option<u64>,
     seen: HashSet<i64>,
-    noted: Noted,
-    /// Whether the set is left alone, since few items need none, or since memory for a value was refused. Then items
-    /// may stay whose value came before.
+    /// Whether the set is left alone, since none is needed yet, or since memory for a value was refused. Then items may
+    /// stay whose value came before.
     pub(crate) partial: bool,
 }
 
 impl Lookup {
-    /// Without values: by positions alone. It takes no memory.
-    pub(crate) fn by_positions(alloc: Global) -> Lookup
+    /// Without a set. It takes no memory.
+    pub(crate) fn without_set(alloc: Global) -> Lookup
         ensures class { result.class ≡ None }
         ensures partial { result.partial ≡ true }
     {
@@ -113,40 +56,35 @@ impl Lookup {
         Lookup {
             class,
             seen: HashSet::new(alloc),
-            noted: Noted {
-                positions: Vec::new(alloc),
-            },
             partial: false,
         }
     }
 
     /// Whether an item stays after those that stayed before: its value is new, or isn't looked up. Then its value is
     /// among those that came before.
-    fn stays(&mut self, before: &[Item], item: Item) -> bool
+    fn stays(&mut self, item: Item) -> bool
         ensures class { self.new.class ≡ self.old.class }
         ensures going { self.new.partial ≡ false → self.old.partial ≡ false }
-        ensures new { result ≡ true → Knows self.old before.now → Knows self.new (before.now ++ item ∷ []) }
-        ensures once { result ≡ true → self.new.partial ≡ false → Knows self.old before.now
-            → is_in self.old.class item.value ≡ true → is_among item.value (values_in before.now) ≡ false }
-        ensures old { result ≡ false → Knows self.old before.now → Knows self.new before.now }
-        ensures again { result ≡ false → Knows self.old before.now
-            → is_among item.value (values_in before.now) ≡ true }
+        ensures new { result ≡ true → (xs : List meant_item) → Knows self.old xs → Knows self.new (xs ++ item ∷ []) }
+        ensures once { result ≡ true → (xs : List meant_item) → self.new.partial ≡ false → Knows self.old xs
+            → is_in self.old.class item.value ≡ true → is_among item.value (values_in xs) ≡ false }
+        ensures old { result ≡ false → (xs : List meant_item) → Knows self.old xs → Knows self.new xs }
+        ensures again { result ≡ false → (xs : List meant_item) → Knows self.old xs
+            → is_among item.value (values_in xs) ≡ true }
     {
+        if self.partial {
+            return true;
+        }
         if !is_in(self.class, item.value) {
             return true;
         }
-        if self.noted.finds(before, item.value) {
-            return false;
-        }
-        if !self.partial {
-            match self.seen.insert(item.value) {
-                Ok(true) => {}
-                Ok(false) => return false,
-                Err(_) => self.partial = true,
+        match self.seen.insert(item.value) {
+            Ok(new) => new,
+            Err(_) => {
+                self.partial = true;
+                true
             }
         }
-        self.noted.note(item.value, before.len());
-        true
     }
 
     /// Begins to fill the set, with room for this number of values, if there is memory for it: a set that grows with
@@ -175,7 +113,7 @@ fn is_in(class: Option<u64>, value: i64) -> bool
 fn class_of(value: i64) -> u64
     ensures { result ≡ class_of value }
 {
-    value.unsigned_abs().wrapping_mul(SPREAD) / (1 << 32) % CLASSES
+    spread(value) / (1 << 32) % CLASSES
 }
 
 /// Takes out the items from position `from` on whose value came before and is looked up. The items before `from` are
@@ -194,7 +132,7 @@ pub(crate) fn take_out(items: &mut Vec<Item>, from: usize, lookup: &mut Lookup)
     let mut kept = from;
     for position in from..items.len() {
         let item = items[position];
-        if lookup.stays(&items[..kept], item) {
+        if lookup.stays(item) {
             items[kept] = item;
             kept += 1;
         }
@@ -216,4 +154,12 @@ pub(crate) fn take_out_by_classes(items: &mut Vec<Item>) -> Result<(), NoMemory>
         }
     }
     Ok(())
+}
+
+/// Whether each value is greater than the one before it, or each is less. Then all are different.
+pub(crate) fn rise_or_fall(items: &[Item]) -> bool
+    ensures { result ≡ true → AreOnce None items.now }
+{
+    items.is_sorted_by(|left, right| left.value < right.value)
+        || items.is_sorted_by(|left, right| right.value < left.value)
 }

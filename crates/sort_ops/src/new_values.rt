@@ -1,11 +1,13 @@
 //! Items, and which of them have new values.
 
-ghost use Rattle.std.specs.Prelude.{◌≡◌, ◌<◌, [], ◌++◌, length, true, None, IfOk, IfSome, OnErr, OnOk};
+ghost use Rattle.std.specs.Prelude.{◌≡◌, ◌<◌, ◌≤◌, ◌+◌, ℕ, [], ◌++◌, length, vec_len, vec_capacity, true, None, IfOk, IfSome, OnErr, OnOk};
+ghost use Rattle.sort_ops.specs.declared.lookup.Lookup.{Lookup};
 ghost use Rattle.sort_ops.specs.Firsts.{firsts};
-ghost use Rattle.sort_ops.specs.NewValues.{AreKnown};
+ghost use Rattle.sort_ops.specs.NewValues.{AreKnown, AreNoted};
 
-use crate::adding::add_items;
-use crate::lookup::{Lookup, take_out, take_out_by_classes};
+use crate::item_slice::ItemSlice;
+use crate::lookup::{Lookup, rise_or_fall, take_out, take_out_by_classes};
+use crate::noted::Noted;
 use std::alloc::Global;
 use std::marker::Model;
 use trace::{Item, NoMemory, SourceItems};
@@ -13,17 +15,19 @@ use trace::{Item, NoMemory, SourceItems};
 /// How many new items are looked up together.
 const LOOSE: usize = 1024;
 
-/// Up to how many items are looked up by positions alone, if nobody asks how many have new values.
+/// Up to how many items need no set, if nobody asks how many have new values.
 const FEW: usize = 2048;
 
 /// From how many items on they are looked up by classes.
 const MANY: usize = 65_536;
 
 /// Items, of which the first ones were looked up. Contracts see the items whose value no item before them has: the
-/// others are taken out where that is asked for, and where there is memory for it.
+/// others stay out if their value is noted, and are taken out where that is asked for, and where there is memory for it.
 #[derive(Drop)]
 pub(crate) struct NewValues {
     items: Vec<Item>,
+    /// Values of some of the items.
+    noted: Noted,
     /// How many items were looked up. They have different values, if the lookup isn't partial.
     known: usize,
     lookup: Lookup,
@@ -35,13 +39,14 @@ impl Model for NewValues {
     ghost use Rattle.std.specs.Prelude.{List, []};
     ghost use Rattle.lambda_values.specs.declared.item.Item.{Item as item};
     ghost use Rattle.sort_ops.specs.Firsts.{firsts};
-    ghost use Rattle.sort_ops.specs.NewValues.{AreKnown};
+    ghost use Rattle.sort_ops.specs.NewValues.{AreKnown, AreNoted};
 
     ghost Value = { List item };
 
     ghost view = { λ kept. firsts [] kept.items.items };
 
-    ghost invariant = { λ kept. AreKnown kept.items.items kept.known kept.lookup };
+    ghost invariant = { λ kept. AreKnown kept.items.items kept.known kept.lookup
+        × AreNoted kept.noted kept.items.items };
 }
 
 impl NewValues {
@@ -51,8 +56,9 @@ impl NewValues {
     {
         NewValues {
             items: Vec::new(alloc),
+            noted: Noted::none(alloc),
             known: 0,
-            lookup: Lookup::by_positions(alloc),
+            lookup: Lookup::without_set(alloc),
             settled: 0,
         }
     }
@@ -80,7 +86,8 @@ impl NewValues {
         ensures err { OnErr result (self.new ≡ self.old) }
         ensures refused { OnErr result (0 < length (I.items source.now)) }
     {
-        add_items(&mut self.items, source)?;
+        self.items.reserve(source.count() as usize)?;
+        add_unnoted(&mut self.items, &mut self.noted, source);
         Ok(())
     }
 
@@ -89,8 +96,7 @@ impl NewValues {
         ensures ok { OnOk result (self.new ≡ firsts [] (self.old ++ others.now)) }
         ensures err { OnErr result (self.new ≡ self.old) }
     {
-        self.items.extend_from_slice(&others.items)?;
-        Ok(())
+        self.add(&ItemSlice::Items(&others.items))
     }
 
     /// Takes out items whose value isn't new. The result is how many are left, if all of these have new values: it is
@@ -116,7 +122,7 @@ impl NewValues {
         ensures { self.new ≡ self.old }
     {
         if self.known >= MANY {
-            self.lookup = Lookup::by_positions(*self.items.allocator());
+            self.lookup = Lookup::without_set(*self.items.allocator());
         }
     }
 
@@ -126,6 +132,7 @@ impl NewValues {
     {
         let NewValues {
             mut items,
+            noted: _,
             mut known,
             mut lookup,
             settled: _,
@@ -137,8 +144,25 @@ impl NewValues {
     }
 }
 
-/// Takes out items whose value isn't new: by positions alone if fewer than `least` are left then and there is no set
-/// yet. Whether none of those is left.
+/// Adds the items of a source whose value isn't noted, and notes the value of each.
+fn add_unnoted<I: SourceItems>(items: &mut Vec<Item>, noted: &mut Noted, source: &I)
+    requires noted { AreNoted noted.old items.old.items }
+    requires room { vec_len items.old + length (I.items source.now) ≤ vec_capacity items.old }
+    ensures noted { AreNoted noted.new items.new.items }
+    ensures known { (count : ℕ) (l : Lookup) → AreKnown items.old.items count l → AreKnown items.new.items count l }
+    ensures same { firsts [] items.new.items ≡ firsts [] (items.old.items ++ I.items source.now) }
+{
+    for position in 0..source.count() {
+        let item = source.item_at(position);
+        if !noted.has(item) {
+            items.push_reserved(item);
+            noted.note(item, items.len());
+        }
+    }
+}
+
+/// Takes out items whose value isn't new, if a set was begun or if there are at least `least`. Whether none of those is
+/// left.
 fn take_out_new(items: &mut Vec<Item>, known: &mut usize, lookup: &mut Lookup, least: usize) -> bool
     requires { AreKnown items.old.items known.old lookup.old }
     ensures known { AreKnown items.new.items known.new lookup.new }
@@ -146,9 +170,11 @@ fn take_out_new(items: &mut Vec<Item>, known: &mut usize, lookup: &mut Lookup, l
     ensures new { result ≡ true → firsts [] items.new.items ≡ items.new.items }
 {
     if items.len() - *known >= MANY {
-        *lookup = Lookup::by_positions(*items.allocator());
+        *lookup = Lookup::without_set(*items.allocator());
     }
-    take_out(items, *known, lookup);
+    if !lookup.partial {
+        take_out(items, *known, lookup);
+    }
     *known = items.len();
     if !lookup.partial {
         return true;
@@ -159,16 +185,21 @@ fn take_out_new(items: &mut Vec<Item>, known: &mut usize, lookup: &mut Lookup, l
     take_out_all(items, known, lookup)
 }
 
-/// Takes out all items whose value isn't new, by a set, or by classes if there are many. If an allocation fails, some
-/// may stay, and the result is false.
+/// Takes out all items whose value isn't new: none if they rise or fall, else by a set, or by classes if there are many.
+/// If an allocation fails, some may stay, and the result is false.
 fn take_out_all(items: &mut Vec<Item>, known: &mut usize, lookup: &mut Lookup) -> bool
     requires { lookup.old.class ≡ None }
     ensures known { AreKnown items.new.items known.new lookup.new }
     ensures same { firsts [] items.new.items ≡ firsts [] items.old.items }
     ensures new { result ≡ true → firsts [] items.new.items ≡ items.new.items }
 {
+    if rise_or_fall(items) {
+        *lookup = Lookup::without_set(*items.allocator());
+        *known = items.len();
+        return true;
+    }
     if items.len() >= MANY {
-        *lookup = Lookup::by_positions(*items.allocator());
+        *lookup = Lookup::without_set(*items.allocator());
         let taken = take_out_by_classes(items);
         *known = items.len();
         return taken.is_ok();

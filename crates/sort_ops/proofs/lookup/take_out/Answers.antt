@@ -2,8 +2,7 @@ use Rattle.std.proofs.Common.{◌≡◌, ◌+◌, ◌≤◌, ◌++◌, ◌∷◌
 use Rattle.std.proofs.Common.{subst, ◌∙◌, append-nil, arith, rules}
 use Rattle.std.proofs.lemmas.List.{drop_all, length-set, take-append-drop, take_more_set}
 use Rattle.lambda_values.specs.declared.item.Item.{Item}
-use Rattle.sort_ops.specs.Firsts.{firsts, is_among}
-use Rattle.sort_ops.specs.Parts.{values_in}
+use Rattle.sort_ops.specs.Firsts.{firsts}
 use Rattle.sort_ops.specs.NewValues.{AreOnce, Knows, is_in}
 use Rattle.sort_ops.proofs.NewLemmas.{again, fewer_once, next_item, one_once, written}
 use Rattle.sort_ops.proofs.lookup.take_out.Goals.{then-stays, else-stays}
@@ -41,9 +40,6 @@ loop-position-preserved c =
     let within : at + 1 ≤ length xs = search (rules, i.long, i.end) in
     let next : drop at xs ≡ x ∷ drop (at + 1) xs = next_item xs at x within c.index-item.ensures in
     let seen = take k xs in
-    let looked : take k c.deref.result.now ≡ seen = ap (take k) c.deref.ensures.value in
-    let known : Knows c.loop-position.lookup (take k c.deref.result.now) =
-    subst (Knows c.loop-position.lookup) (sym looked) i.known in
     elim c.if-stays.branch [
       | then-stays w ↦
           let is : c.if-stays.items.items ≡ set xs k x = search rules in
@@ -58,13 +54,12 @@ loop-position-preserved c =
             end = i.end;
             kept = omega (arith, more, i.kept);
             firsts = ap (firsts []) same ∙ i.firsts;
-            known = subst (Knows c.stays.new.self) (ap (λ (l : List Item). l ++ x ∷ []) looked ∙ sym front)
-                (c.stays.ensures.new w.if-stays.true known);
+            known = subst (Knows c.stays.new.self) (sym front) (c.stays.ensures.new w.if-stays.true seen i.known);
             class = c.stays.ensures.class ∙ i.class;
             once = λ going before. subst (AreOnce c.args.lookup.now.class) (sym front)
                 (one_once c.args.lookup.now.class seen x (i.once (c.stays.ensures.going going) before)
-                (λ inside. subst (λ (l : List Item). is_among x.value (values_in l) ≡ false) looked
-                (c.stays.ensures.once w.if-stays.true going known (ap (λ l. is_in l x.value) i.class ∙ inside))));
+                (λ inside. c.stays.ensures.once w.if-stays.true seen going i.known
+                (ap (λ l. is_in l x.value) i.class ∙ inside)));
             going = λ going. i.going (c.stays.ensures.going going);
             others = λ d once. subst (AreOnce d) (sym same) (i.others d once);
           }
@@ -78,10 +73,9 @@ loop-position-preserved c =
             end = i.end;
             kept = omega (arith, more, i.kept);
             firsts = ap (firsts []) ((λ j. front j ++ rest j)) ∙ again seen x (drop (at + 1) xs)
-                (subst (λ (l : List Item). is_among x.value (values_in l) ≡ true) looked
-                (c.stays.ensures.again w.if-stays.false known))
+                (c.stays.ensures.again w.if-stays.false seen i.known)
                 ∙ ap (λ (l : List Item). firsts [] (seen ++ l)) (sym next) ∙ i.firsts;
-            known = subst (Knows c.stays.new.self) (looked ∙ sym front) (c.stays.ensures.old w.if-stays.false known);
+            known = subst (Knows c.stays.new.self) (sym front) (c.stays.ensures.old w.if-stays.false seen i.known);
             class = c.stays.ensures.class ∙ i.class;
             once = λ going before. subst (AreOnce c.args.lookup.now.class) (sym front)
                 (i.once (c.stays.ensures.going going) before);

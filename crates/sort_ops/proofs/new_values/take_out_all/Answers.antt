@@ -13,3 +13,7 @@ returns-clause-new c = λ whole.
     let going : c.take_out.new.lookup.partial ≡ false = search (rules, whole) in
     own_firsts now (subst (λ (k : Option ℕ). AreOnce k now) (c.begin_set.ensures.class ∙ c.requires)
     (c.take_out.ensures.once going tt))
+
+pub returns-then-rise_or_fall-clause-new : goal.returns-then-rise_or_fall-clause-new
+returns-then-rise_or_fall-clause-new c = λ done.
+    own_firsts c.args.items.now.items (subst (AreOnce None) c.deref.ensures.value (c.rise_or_fall.ensures c.if-rise_or_fall.true))
