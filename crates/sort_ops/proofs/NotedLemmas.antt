@@ -87,10 +87,11 @@ pub item_among : (xs : List Item) (x : Item) → is_among x.value (values_in (xs
 item_among [] x = ap (λ b. b || false) ((signed_Decides x.value x.value).1 refl)
 item_among (y ∷ ys) x = or_right (int_eq x.value y.value) (is_among x.value (values_in (ys ++ x ∷ []))) (item_among ys x)
 
-pub one_more_noted : (xs : List Item) (x : Item) (ps : List (ℤ × ℤ)) → AreAmong (values_in xs) ps
-    → AreAmong (values_in (xs ++ x ∷ [])) ps
-one_more_noted xs x ps all = subst (λ (vs : List ℤ). AreAmong vs ps)
-    (sym (map-append (λ (y : Item). y.value) xs (x ∷ []))) (still_among (values_in xs) (x.value ∷ []) ps all)
+-- more items
+pub still_noted : (xs ys : List Item) (ps : List (ℤ × ℤ)) → AreAmong (values_in xs) ps
+    → AreAmong (values_in (xs ++ ys)) ps
+still_noted xs ys ps all = subst (λ (vs : List ℤ). AreAmong vs ps)
+    (sym (map-append (λ (y : Item). y.value) xs ys)) (still_among (values_in xs) (values_in ys) ps all)
 
 -- the firsts of items and of one more, which is kept
 pub kept_on : (xs ys : List Item) (x : Item) → firsts [] xs ≡ firsts [] ys
@@ -105,12 +106,12 @@ left_on xs ys x same h =
     sym (one_more xs x ∙ chosen (is_among x.value (values_in xs)) (firsts [] xs) (firsts [] xs ++ x ∷ []) h)
     ∙ kept_on xs ys x same
 
--- one more item changes nothing of those that were looked up
-pub known_on : (xs : List Item) (x : Item) (k : ℕ) (l : Lookup) → AreKnown xs k l → AreKnown (xs ++ x ∷ []) k l
-known_on xs x k l are =
-    let long = length-append xs (x ∷ []) in
+-- more items change nothing of those that were looked up
+pub still_known : (xs ys : List Item) (k : ℕ) (l : Lookup) → AreKnown xs k l → AreKnown (xs ++ ys) k l
+still_known xs ys k l are =
+    let long = length-append xs ys in
     let within = are.within in
-    let same : take k xs ≡ take k (xs ++ x ∷ []) = sym (take-append-le k xs (x ∷ []) within) in
+    let same : take k xs ≡ take k (xs ++ ys) = sym (take-append-le k xs ys within) in
     record {
       within = omega (arith, within, long);
       once = λ going. subst (AreOnce None) same (are.once going);

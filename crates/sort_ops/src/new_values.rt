@@ -91,12 +91,17 @@ impl NewValues {
         Ok(())
     }
 
-    /// Adds the items of others. If the allocation fails, there are those of before.
-    pub(crate) fn append(&mut self, others: &NewValues) -> Result<(), NoMemory>
+    /// Adds the items of others; all of them, if few can have a value that is noted. If the allocation fails, there are
+    /// those of before.
+    pub(crate) fn append(&mut self, others: &NewValues, all: bool) -> Result<(), NoMemory>
         ensures ok { OnOk result (self.new ≡ firsts [] (self.old ++ others.now)) }
         ensures err { OnErr result (self.new ≡ self.old) }
     {
-        self.add(&ItemSlice::Items(&others.items))
+        if !all {
+            return self.add(&ItemSlice::Items(&others.items));
+        }
+        self.items.extend_from_slice(&others.items)?;
+        Ok(())
     }
 
     /// Takes out items whose value isn't new. The result is how many are left, if all of these have new values: it is

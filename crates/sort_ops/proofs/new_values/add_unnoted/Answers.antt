@@ -5,7 +5,7 @@ use Rattle.lambda_values.specs.declared.item.Item.{Item}
 use Rattle.sort_ops.specs.declared.noted.Noted.{Noted}
 use Rattle.sort_ops.specs.Firsts.{firsts}
 use Rattle.sort_ops.specs.NewValues.{AreKnown, AreNoted}
-use Rattle.sort_ops.proofs.NotedLemmas.{item_among, kept_on, known_on, left_on, one_more_noted}
+use Rattle.sort_ops.proofs.NotedLemmas.{item_among, kept_on, left_on, still_known, still_noted}
 use Rattle.sort_ops.proofs.new_values.add_unnoted.Goals.{then-not-has, else-not-has}
 use Rattle.sort_ops.proofs.new_values.add_unnoted.Goals as goal
 
@@ -38,9 +38,9 @@ loop-position-preserved g c =
             noted = subst (λ (l : List Item). AreNoted c.if-not-has.noted l) (sym is)
                 (subst (λ (n : Noted). AreNoted n (now ++ x ∷ [])) (sym w.noted-is)
                 (w.note.ensures (now ++ x ∷ []) (item_among now x)
-                (one_more_noted now x c.loop-position.noted.values.items invariant.noted)));
+                (still_noted now (x ∷ []) c.loop-position.noted.values.items invariant.noted)));
             known = λ count l are. subst (λ (ys : List Item). AreKnown ys count l) (sym is)
-                (known_on now x count l (invariant.known count l are));
+                (still_known now (x ∷ []) count l (invariant.known count l are));
             same = ap (firsts []) is ∙ kept_on now (old ++ take i xs) x invariant.same ∙ ap (firsts []) (sym all);
             room = search rules;
           }
