@@ -9,6 +9,7 @@ pub mod JoinedLemmas
 pub mod KeptFirstsLemmas
 pub mod LeastLemmas
 pub mod LoopLemmas
+pub mod MeetLemmas
 pub mod NewLemmas
 pub mod NotedLemmas
 pub mod OrderLemmas
@@ -16,6 +17,7 @@ pub mod PartLemmas
 pub mod PlaceLemmas
 pub mod RangeLemmas
 pub mod RunLemmas
+pub mod SideLemmas
 pub mod SortLemmas
 pub mod UniqueLemmas
 pub mod ValueLemmas

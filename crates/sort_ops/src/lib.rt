@@ -23,6 +23,7 @@ mod lookup;
 mod merging;
 mod new_values;
 mod noted;
+mod ordered_list;
 mod placing;
 mod runs;
 mod sorted_part;
@@ -35,6 +36,7 @@ pub use laws::{
     an_item_stays_if_its_value_is_new, every_tree_of_pieces_gives_the_firsts,
     every_tree_of_pieces_gives_the_order, the_order_is_the_only_one, two_orders_merge,
 };
+pub use ordered_list::OrderedList;
 pub use sorted_part::SortedPart;
 pub use sorted_run::SortedRun;
 pub use sorted_runs::SortedRuns;

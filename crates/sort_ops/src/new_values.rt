@@ -18,6 +18,9 @@ const LOOSE: usize = 1024;
 /// Up to how many items need no set, if nobody asks how many have new values.
 const FEW: usize = 2048;
 
+/// At how many items it is seen whether others have values that were noted.
+const SAMPLES: usize = 64;
+
 /// From how many items on they are looked up by classes.
 const MANY: usize = 65_536;
 
@@ -91,17 +94,27 @@ impl NewValues {
         Ok(())
     }
 
-    /// Adds the items of others; all of them, if few can have a value that is noted. If the allocation fails, there are
+    /// Adds the items of others, those with a noted value too if that seems seldom. If the allocation fails, there are
     /// those of before.
-    pub(crate) fn append(&mut self, others: &NewValues, all: bool) -> Result<(), NoMemory>
+    pub(crate) fn append(&mut self, others: &NewValues) -> Result<(), NoMemory>
         ensures ok { OnOk result (self.new ≡ firsts [] (self.old ++ others.now)) }
         ensures err { OnErr result (self.new ≡ self.old) }
     {
-        if !all {
+        if self.has_noted_some(others) {
             return self.add(&ItemSlice::Items(&others.items));
         }
         self.items.extend_from_slice(&others.items)?;
         Ok(())
+    }
+
+    /// Whether the value of one of some items of others is noted.
+    fn has_noted_some(&self, others: &NewValues) -> bool {
+        let step = others.items.len() / SAMPLES + 1;
+        others
+            .items
+            .iter()
+            .step_by(step)
+            .any(|item| self.noted.has(*item))
     }
 
     /// Takes out items whose value isn't new. The result is how many are left, if all of these have new values: it is

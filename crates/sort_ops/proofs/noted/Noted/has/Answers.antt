@@ -1,4 +1,4 @@
-use Rattle.std.proofs.Common.{◌≡◌, true, sym, subst, ◌∙◌}
+use Rattle.std.proofs.Common.{sym, subst, ◌∙◌}
 use Rattle.sort_ops.specs.NewValues.{AreAmong}
 use Rattle.sort_ops.specs.Parts.{values_in}
 use Rattle.sort_ops.proofs.NotedLemmas.{either_among, pair_among}
