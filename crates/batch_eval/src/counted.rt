@@ -20,8 +20,7 @@ use crate::reached::{Reached, all};
 use crate::step::{last_step, no_step};
 use lambda_values::{BinaryOperator, Env, LongExpr};
 
-/// After so many operators a progression isn't looked for, so that a long chain isn't gone through again for each of
-/// its operators.
+/// The most operators of a progression: a limit, so that a long chain isn't gone through again for each operator.
 const OPERATORS_OF_PROGRESSION: u32 = 8;
 
 /// Numbers that go up by a step: the first one, and the step.
@@ -55,6 +54,15 @@ impl Progression {
     }
 }
 
+/// Whether numbers that go up by a step still do after an operator by a number. It is asked before operands are looked
+/// at.
+fn keeps_step(operator: BinaryOperator) -> bool {
+    matches!(
+        operator,
+        BinaryOperator::Add | BinaryOperator::Subtract | BinaryOperator::Multiply
+    )
+}
+
 /// The values of an expression over numbers that count up from this one, if they go up by a step: those of up to
 /// `most` operators by numbers.
 fn progression_of(expr: &LongExpr, env: &Env, first: i64, most: u32) -> Option<Progression>
@@ -67,6 +75,9 @@ fn progression_of(expr: &LongExpr, env: &Env, first: i64, most: u32) -> Option<P
     let LongExpr::Binary(operator, pair) = expr else {
         return None;
     };
+    if !keeps_step(*operator) {
+        return None;
+    }
     let y = number_in(&pair.right, env)?;
     let numbers = progression_of(&pair.left, env, first, most.checked_sub(1)?)?;
     numbers.then(*operator, y)
