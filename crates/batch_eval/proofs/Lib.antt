@@ -10,6 +10,7 @@ pub mod KeptLaneLemmas
 pub mod LaneLemmas
 pub mod PlaceLemmas
 pub mod PowerLemmas
+pub mod ProgressionLemmas
 pub mod RangeLemmas
 pub mod ReciprocalLemmas
 pub mod RestLemmas

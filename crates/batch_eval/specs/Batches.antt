@@ -36,6 +36,11 @@ item_at start origins values k = record { origin = origin_at start origins k; va
 abbrev pub counted_item : ℕ → ℤ → ℕ → Item
 counted_item place first k = record { origin = place + k; value = wrap (first +ℤ pos k) }
 
+-- numbers that go up by a step: the one at a lane
+abbrev pub going_up : ℤ → ℤ → ℕ → ℤ
+going_up first by zero = first
+going_up first by (suc k) = wrap (going_up first by k +ℤ by)
+
 -- the items of places and values, one after the other
 abbrev pub laid_items : Option ℕ → List ℕ → List ℤ → List Item
 laid_items start places values = lanes (length values) (item_at start places values)

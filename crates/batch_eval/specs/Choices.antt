@@ -53,5 +53,5 @@ lane_passes t k = holds t.set (step_value t.step (at t.xs.now k))
 
 -- a flag and a boolean, connected
 abbrev pub connected_flag : Connective → ℤ → Bool → ℤ
-connected_flag connective.And z b = flag_of (is_set z && is_set (flag_of b))
-connected_flag connective.Or z b = flag_of (is_set z || is_set (flag_of b))
+connected_flag connective.And z b = flag_of (is_set z && b)
+connected_flag connective.Or z b = flag_of (is_set z || b)

@@ -208,7 +208,7 @@ impl Batch {
             ≡ trace (placed range.now.origin (counted range.now.first range.now.count)) End.Done }
     {
         let live = range.count as usize;
-        list_numbers(range.first, live, &mut self.values);
+        list_numbers(range.first, 1, live, &mut self.values);
         self.live = live;
         self.start = Some(range.origin);
         self.end = End::Done;

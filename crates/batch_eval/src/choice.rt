@@ -11,7 +11,7 @@ ghost use Rattle.std.specs.Prelude.{◌≡◌, ◌<◌, ◌≤◌, ℕ, IsTrue, 
 
 use crate::cheap::is_cheap;
 use crate::choose::{Side, all_flags, gather, merge};
-use crate::lying::lane_test;
+use crate::in_place::lane_test;
 use crate::number_test::NumberTest;
 use crate::operands::{Step, blend};
 use crate::reached::{Reached, all};

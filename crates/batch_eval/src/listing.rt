@@ -1,12 +1,10 @@
 //! Registers that are filled from elsewhere.
 
-ghost use Rattle.batch_eval.specs.Batches.{CountsUp, item_at, origin_at};
+ghost use Rattle.batch_eval.specs.Batches.{CountsUp, going_up, item_at, origin_at};
 ghost use Rattle.batch_eval.specs.Lanes.{at};
-ghost use Rattle.lambda_values.specs.Wrap.{wrap};
-ghost use Rattle.std.specs.Prelude.{◌≡◌, ◌≢◌, ℕ, ◌+◌, ◌*◌, ◌<◌, ◌≤◌, ◌^◌, ◌+ℤ◌, pos, None};
+ghost use Rattle.std.specs.Prelude.{◌≡◌, ◌≢◌, ℕ, ◌+◌, ◌*◌, ◌<◌, ◌≤◌, ◌^◌, None};
 ghost use Rattle.std.specs.Prelude.{Some, length, slice_get, slice_index, take};
 
-use crate::lanes::{Counting, Lanes};
 use crate::register::LANES;
 use trace::SourceItems;
 
@@ -32,14 +30,15 @@ pub(crate) fn list_places(start: Option<u64>, live: usize, origins: &mut [u64])
     }
 }
 
-/// Numbers that count up from the first one, lane by lane.
-pub(crate) fn list_numbers(first: i64, count: usize, values: &mut [i64])
-    requires few { count ≤ 1024 }
-    requires within { count ≤ length values.old }
-    ensures { (k : ℕ) → k < count → at values.new k ≡ wrap (first +ℤ pos k) }
+/// Numbers that go up by a step, lane by lane.
+pub(crate) fn list_numbers(first: i64, by: i64, count: usize, values: &mut [i64])
+    requires { count ≤ length values.old }
+    ensures { (k : ℕ) → k < count → at values.new k ≡ going_up first by k }
 {
+    let mut number = first;
     for lane in 0..count {
-        values[lane] = Counting(first).get(lane, 0);
+        values[lane] = number;
+        number = number.wrapping_add(by);
     }
 }
 

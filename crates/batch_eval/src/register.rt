@@ -17,10 +17,10 @@ use crate::choice::eval_chosen;
 use crate::constant::number_in;
 use crate::dispatch::{by_infix, has_shorter_way};
 use crate::flag::flag;
+use crate::in_place::{connected_lanes, numbers_in_place};
 use crate::kernel::{Equal, First, Infix};
 use crate::lanes::{Number, Own, Register};
 use crate::loops::run;
-use crate::lying::{connected_lanes, lying};
 use crate::number_test::NumberTest;
 use crate::operands::{Beside, Branch, Held, Step, connect, fill, flag_held};
 use crate::reached::{Reached, all};
@@ -273,7 +273,7 @@ fn eval_between(
     }
     let (held, first) = eval_held(a, inputs, out, room);
     let last = last_step(b, inputs.env);
-    if let Some(ys) = lying(last.of, inputs) {
+    if let Some(ys) = numbers_in_place(last.of, inputs) {
         let beside = Beside::Register(ys, last.step);
         return by_infix(op, held, beside, first.live, out).after(first);
     }
@@ -349,7 +349,7 @@ pub(crate) fn eval_held<'a>(
     ensures reached { Reaches (at_each inputs.entry (long_value (long_of expr.now)))
         (held_at result.0 out.new) inputs.entry.live result.1 }
 {
-    match lying(expr, inputs) {
+    match numbers_in_place(expr, inputs) {
         Some(xs) => (Held::Register(xs), all(inputs.live)),
         None => (Held::Out, eval_long(expr, inputs, out, room)),
     }

@@ -1,9 +1,14 @@
 -- Folds of the values whose flag is set, lane by lane.
-use Rattle.std.proofs.Common.{◌≡◌, ℕ, ◌+◌, ◌<◌, ℤ, FitsSigned, w64, Bool, true, false, List, [], ◌∷◌, ◌++◌, length}
-use Rattle.std.proofs.Common.{Some, None, fold, refl, sym, ap, subst, ◌∙◌, arith, rules, add-one, length-append}
+use Rattle.std.proofs.Common.{◌≡◌, ℕ, suc, ◌+◌, ◌<◌, ℤ, pos, ◌+ℤ◌, FitsSigned, w64, Bool, true, false, List, [], ◌∷◌}
+use Rattle.std.proofs.Common.{◌++◌}
+use Rattle.std.proofs.Common.{length, Some, None, fold, refl, sym, ap, subst, ◌∙◌, arith, rules, add-one, length-append}
+use Rattle.std.proofs.lemmas.Int.{SFits-int_wrap, int_wrap-add_left, int_wrap_fits, ints}
 use Rattle.std.proofs.lemmas.List.{append-nil}
 use Rattle.std.proofs.lemmas.List.Sums.{fold-append}
+use lib.IntN.{+ℤ_idr}
+use Rattle.lambda_values.specs.Wrap.{wrap}
 use Rattle.reduce_ops.specs.declared.op.Op.{Op}
+use Rattle.reduce_ops.specs.declared.op.Op.TheVariants.{Sum}
 use Rattle.reduce_ops.specs.Operators.{identity_of, value_of}
 use Rattle.reduce_ops.proofs.Identities.{all_identities}
 use Rattle.batch_eval.specs.Lanes.{at}
@@ -79,3 +84,20 @@ module _ (p : ℤ → Bool) (values flags : List ℤ) where
     pub none_folded : (vs : List ℤ) → 0 ≡ length vs → None ≡ folded_values (value_of op) counts vs
     none_folded [] none_left = refl
     none_folded (v ∷ vs) none_left = absurd (omega (arith, none_left))
+
+-- the sum of ones
+ones_onto : (a : ℤ) (vs : List ℤ) → wrap a ≡ a
+    → fold (λ b w. value_of Sum b (each_one true w)) a vs ≡ wrap (a +ℤ pos (length vs))
+ones_onto a [] is = sym is ∙ ap wrap (sym (+ℤ_idr a))
+ones_onto a (v ∷ vs) is =
+    let one_more : (a +ℤ pos 1) +ℤ pos (length vs) ≡ a +ℤ pos (suc (length vs)) = omega (arith, ints) in
+    ones_onto (wrap (a +ℤ pos 1)) vs (int_wrap_fits w64 (wrap (a +ℤ pos 1)) (SFits-int_wrap w64 (a +ℤ pos 1)))
+    ∙ int_wrap-add_left w64 (a +ℤ pos 1) (pos (length vs)) ∙ ap wrap one_more
+
+pub ones_folded : (vs : List ℤ) → 0 < length vs
+    → Some (wrap (pos (length vs))) ≡ folded_values (value_of Sum) true vs
+ones_folded [] some = absurd (omega (arith, some))
+ones_folded (v ∷ vs) some =
+    let all : pos 1 +ℤ pos (length vs) ≡ pos (suc (length vs)) = omega (arith, ints) in
+    let small : FitsSigned w64 (pos 1) = search rules in
+    ap Some (ap wrap (sym all) ∙ sym (ones_onto (pos 1) vs (int_wrap_fits w64 (pos 1) small)))

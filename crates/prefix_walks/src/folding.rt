@@ -1,7 +1,7 @@
 //! Folds of the values of a batch, or of those whose flag is set: one loop, compiled for each operator.
 
 ghost use Rattle.batch_eval.specs.Batches.{flagged_values, holds};
-ghost use Rattle.std.specs.Prelude.{◌≡◌, ◌≤◌, IfNone, IfSome, List, None, Some, fold, length, map};
+ghost use Rattle.std.specs.Prelude.{◌≡◌, ◌≤◌, IfNone, IfSome, List, None, Some, fold, length, map, true};
 ghost use Rattle.trace.specs.declared.item.End.TheVariants as end;
 ghost use Rattle.lambda_values.specs.declared.item.Item.{Item as item};
 ghost use Rattle.trace.specs.Trace.{trace};
@@ -95,11 +95,29 @@ fn fold_flagged(op: Op, counts: bool, identity: i64, lanes: FlaggedLanes<'_>) ->
         lanes.entry.values.now lanes.entry.flags.now (length lanes.entry.flags.now)) }
 {
     match op {
-        Op::Sum if counts => fold_each_flagged(Op::Sum, true, 0, lanes),
+        Op::Sum if counts => count_flagged(lanes),
         _ if counts => fold_each_flagged(op, true, identity, lanes),
         _ => with_known!(op, known => {
             fold_each_flagged(known, false, known_identity(known, identity), lanes)
         }),
+    }
+}
+
+/// How many values have their flag set, as the fold of a 1 for each of them; `None` if no flag is set. It reads no
+/// value.
+fn count_flagged(lanes: FlaggedLanes<'_>) -> Option<i64>
+    ensures { result ≡ folded_values (value_of Op.Sum) true (flagged_values (holds lanes.entry.set)
+        lanes.entry.values.now lanes.entry.flags.now (length lanes.entry.flags.now)) }
+{
+    let FlaggedLanes { flags, set, .. } = lanes;
+    let mut missed: usize = 0;
+    for lane in 0..flags.len() {
+        missed += if set.holds(flags[lane]) { 0 } else { 1 };
+    }
+    if missed == flags.len() {
+        None
+    } else {
+        Some((flags.len() - missed) as i64)
     }
 }
 

@@ -17,7 +17,7 @@ use crate::step::{compared_with, last_step};
 use lambda_values::{BoolExpr, Connective, LongExpr};
 
 /// The numbers of an operand, where they lie: the items, or the cells of rows that count up.
-pub(crate) fn lying<'a>(expr: &LongExpr, inputs: Inputs<'a, '_>) -> Option<&'a [i64]>
+pub(crate) fn numbers_in_place<'a>(expr: &LongExpr, inputs: Inputs<'a, '_>) -> Option<&'a [i64]>
     requires xs { inputs.live ≤ length inputs.xs.now }
     requires rows { HasRows inputs.rows inputs.live }
     ensures lanes { IfSome result (λ xs. inputs.entry.live ≤ length xs.now) }
@@ -44,7 +44,7 @@ pub(crate) fn lane_test<'a>(test: &BoolExpr, inputs: Inputs<'a, '_>) -> Option<L
 {
     let (left, set) = compared_with(test, inputs.env)?;
     let last = last_step(left, inputs.env);
-    let xs = lying(last.of, inputs)?;
+    let xs = numbers_in_place(last.of, inputs)?;
     let step = last.step;
     Some(LaneTest { xs, step, set })
 }

@@ -8,7 +8,7 @@ use Rattle.lambda_values.specs.Value.{connected, truth_value}
 use Rattle.batch_eval.specs.Choices.{lane_item, lane_passes}
 use Rattle.batch_eval.specs.Lanes.{flagged}
 use Rattle.batch_eval.proofs.FlagLemmas.{flagged_connected}
-use Rattle.batch_eval.proofs.lying.connected_lanes.Goals as goal
+use Rattle.batch_eval.proofs.in_place.connected_lanes.Goals as goal
 
 pub returns-clause-value : goal.returns-clause-value
 returns-clause-value c = λ k below.
