@@ -1,6 +1,7 @@
 -- Items whose value came before, and sets that find them.
 use Rattle.std.proofs.Common.{◌≡◌, ◌+◌, ◌≤◌, ◌<◌, ◌*◌, ◌/◌, ◌%◌, ◌^◌, ◌==◌, nat_lt, ℕ, ℤ, Bool, true, false, ◌||◌, cond}
-use Rattle.std.proofs.Common.{int_eq, int_lt, slice_index_or, unsigned_abs, List, [], ◌∷◌, ◌++◌, length, take, drop, get_or, set, Option, None}
+use Rattle.std.proofs.Common.{int_eq, int_lt, slice_index_or, unsigned_abs, List, [], ◌∷◌, ◌++◌, length, take, drop}
+use Rattle.std.proofs.Common.{get_or, set, Option, None}
 use Rattle.std.proofs.Common.{Some, suc, refl, sym, ap, subst, ◌∙◌, arith, append_assoc}
 use Rattle.std.proofs.lemmas.List.{drop_more, drop-set-lt, take_more_set}
 use Rattle.std.proofs.lemmas.Grind.{common_steps}

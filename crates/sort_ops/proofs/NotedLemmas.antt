@@ -1,6 +1,8 @@
 -- Noted values, each of which is the value of an item.
-use Rattle.std.proofs.Common.{◌≡◌, ℕ, zero, suc, ◌<◌, ℤ, true, false, ◌||◌, int_eq, List, [], ◌∷◌, length, length-append, get_or, None}
-use Rattle.std.proofs.Common.{◌++◌, take, replicate, append-nil, set, Result, Ok, Err, is_ok, refl, sym, ap, subst, ◌∙◌, arith}
+use Rattle.std.proofs.Common.{◌≡◌, ℕ, zero, suc, ◌<◌, ℤ, true, false, ◌||◌, int_eq, List, [], ◌∷◌, length}
+use Rattle.std.proofs.Common.{length-append, get_or, None}
+use Rattle.std.proofs.Common.{◌++◌, take, replicate, append-nil, set, Result, Ok, Err, is_ok, refl, sym, ap, subst, ◌∙◌}
+use Rattle.std.proofs.Common.{arith}
 use Rattle.std.specs.Prelude.{if◌then◌else◌}
 use Rattle.std.proofs.lemmas.List.{map-append, take-append-le}
 use Rattle.std.specs.Cmp.{signed_Decides}
@@ -9,7 +11,8 @@ use Rattle.sort_ops.specs.declared.lookup.Lookup.{Lookup}
 use Rattle.sort_ops.specs.Firsts.{firsts, is_among}
 use Rattle.sort_ops.specs.Parts.{values_in}
 use Rattle.sort_ops.specs.NewValues.{AreAmong, AreKnown, AreOnce, Knows}
-use Rattle.sort_ops.proofs.FirstLemmas.{SameSeen, among_joined, equal_is, firsts_first, one_more, or_right, seen_by_firsts}
+use Rattle.sort_ops.proofs.FirstLemmas.{SameSeen, among_joined, equal_is, firsts_first, one_more, or_right}
+use Rattle.sort_ops.proofs.FirstLemmas.{seen_by_firsts}
 use Rattle.sort_ops.proofs.Choices.{by_bool, chosen}
 
 -- the pair at a position
@@ -85,7 +88,8 @@ firsts_among xs ys ps same all = same_among (values_in xs) (values_in ys) ps
 -- one more item
 pub item_among : (xs : List Item) (x : Item) → is_among x.value (values_in (xs ++ x ∷ [])) ≡ true
 item_among [] x = ap (λ b. b || false) ((signed_Decides x.value x.value).1 refl)
-item_among (y ∷ ys) x = or_right (int_eq x.value y.value) (is_among x.value (values_in (ys ++ x ∷ []))) (item_among ys x)
+item_among (y ∷ ys) x = or_right (int_eq x.value y.value) (is_among x.value (values_in (ys ++ x ∷ [])))
+    (item_among ys x)
 
 -- more items
 pub still_noted : (xs ys : List Item) (ps : List (ℤ × ℤ)) → AreAmong (values_in xs) ps

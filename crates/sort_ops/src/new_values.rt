@@ -25,7 +25,7 @@ const SAMPLES: usize = 64;
 const MANY: usize = 65_536;
 
 /// Items, of which the first ones were looked up. Contracts see the items whose value no item before them has: the
-/// others stay out if their value is noted, and are taken out where that is asked for, and where there is memory for it.
+/// others stay out if their value is noted, and are taken out where that is asked for, and where there is memory.
 #[derive(Drop)]
 pub(crate) struct NewValues {
     items: Vec<Item>,
@@ -203,8 +203,8 @@ fn take_out_new(items: &mut Vec<Item>, known: &mut usize, lookup: &mut Lookup, l
     take_out_all(items, known, lookup)
 }
 
-/// Takes out all items whose value isn't new: none if they rise or fall, else by a set, or by classes if there are many.
-/// If an allocation fails, some may stay, and the result is false.
+/// Takes out all items whose value isn't new: none if they rise or fall, else by a set, or by classes if there are
+/// many. If an allocation fails, some may stay, and the result is false.
 fn take_out_all(items: &mut Vec<Item>, known: &mut usize, lookup: &mut Lookup) -> bool
     requires { lookup.old.class ≡ None }
     ensures known { AreKnown items.new.items known.new lookup.new }
