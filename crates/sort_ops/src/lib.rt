@@ -4,11 +4,11 @@
 //! describes a piece of a walk, and two parts side by side merge to the part of both (`SortedPart::append` and
 //! `DistinctPart::append`, clause `ok`); `finish` gives what the stage makes of the whole, `sorted` as runs that share
 //! it (`SortedRuns`). Of items that are all at place 0, a sort keeps the values alone (`item_list.rt`); items that came
-//! in order, or in reverse, stay where they lie (`sorted_run.rt`). `laws.rt` says
-//! what the order of items is and what firsts are, and that every tree of pieces gives them. Begin with
-//! `specs/Orders.antt` and `specs/Firsts.antt`, then `merging.rt`, `runs.rt`, `sorted_part.rt`, `sorted_runs.rt` and
-//! `distinct_part.rt`. Not promised: how much of a part is in order, or was looked up in its set, before `finish`, and
-//! how many runs there are. Java: `sorted` and `distinct` of `LongStream` (Java SE 17, `java.util.stream`).
+//! in order, or in reverse, stay where they lie (`sorted_run.rt`). `laws.rt` says what the order of items is and what
+//! firsts are, and that every tree of pieces gives them. Begin with `specs/Orders.antt` and `specs/Firsts.antt`, then
+//! `merging.rt`, `runs.rt`, `sorted_part.rt`, `sorted_runs.rt` and `distinct_part.rt`. Not promised: how much of a part
+//! is in order, or was looked up in its set, before `finish`, and how many runs there are. Java: `sorted` and `distinct`
+//! of `LongStream` (Java SE 17, `java.util.stream`).
 //!
 //! Tested: runs of the programs in `tests`.
 #![tactic(auto)]

@@ -1,6 +1,7 @@
 //! Items, and which of them have new values.
 
-ghost use Rattle.std.specs.Prelude.{◌≡◌, ◌<◌, ◌≤◌, ◌+◌, ℕ, [], ◌++◌, length, vec_len, vec_capacity, true, None, IfOk, IfSome, OnErr, OnOk};
+ghost use Rattle.std.specs.Prelude.{◌≡◌, ◌<◌, ◌≤◌, ◌+◌, ℕ, [], ◌++◌, length, vec_len, vec_capacity};
+ghost use Rattle.std.specs.Prelude.{true, None, IfOk, IfSome, OnErr, OnOk};
 ghost use Rattle.sort_ops.specs.declared.lookup.Lookup.{Lookup};
 ghost use Rattle.sort_ops.specs.Firsts.{firsts};
 ghost use Rattle.sort_ops.specs.NewValues.{AreKnown, AreNoted};
