@@ -7,8 +7,8 @@
 //! in order, or in reverse, stay where they lie (`sorted_run.rt`). `laws.rt` says what the order of items is and what
 //! firsts are, and that every tree of pieces gives them. Begin with `specs/Orders.antt` and `specs/Firsts.antt`, then
 //! `merging.rt`, `runs.rt`, `sorted_part.rt`, `sorted_runs.rt` and `distinct_part.rt`. Not promised: how much of a part
-//! is in order, or was looked up in its set, before `finish`, and how many runs there are. Java: `sorted` and `distinct`
-//! of `LongStream` (Java SE 17, `java.util.stream`).
+//! is in order, or was looked up in its set, before `finish`, and how many runs there are. Java: `sorted` and
+//! `distinct` of `LongStream` (Java SE 17, `java.util.stream`).
 //!
 //! Tested: runs of the programs in `tests`.
 #![tactic(auto)]
