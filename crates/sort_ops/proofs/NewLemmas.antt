@@ -250,6 +250,23 @@ pub rising_once : (xs : List Item) (b : Bool)
     → IsAllAdjacentAnswer (λ (x y : Item) (c : Bool). c ≡ int_lt x.value y.value) xs b → b ≡ true → AreOnce None xs
 rising_once = once_if_answered int_lt rising
 
+-- if one of them doesn't, there are two
+pub some_answered : (r : ℤ → ℤ → Bool) (xs : List Item) (b : Bool)
+    → IsAllAdjacentAnswer (λ (x y : Item) (c : Bool). c ≡ r x.value y.value) xs b → b ≡ false → 0 < length xs
+some_answered r xs true answer is = cc
+some_answered r xs false answer is = let low = answer.1 in omega (arith, low)
+
 pub falling_once : (xs : List Item) (b : Bool)
     → IsAllAdjacentAnswer (λ (x y : Item) (c : Bool). c ≡ int_lt y.value x.value) xs b → b ≡ true → AreOnce None xs
 falling_once = once_if_answered (λ a b. int_lt b a) falling
+
+-- ---- items that have firsts
+
+pub some_firsts : (xs : List Item) → 0 < length xs → 0 < length (firsts [] xs)
+some_firsts [] h = absurd (omega (arith, h))
+some_firsts (x ∷ xs) h = omega arith
+
+pub some_before : (xs ys : List Item) → firsts [] ys ≡ firsts [] xs → 0 < length ys → 0 < length xs
+some_before [] ys same h =
+    let some_now = some_firsts ys h in let e = ap length same in absurd (omega (arith, some_now, e))
+some_before (x ∷ xs) ys same h = omega arith

@@ -1,6 +1,6 @@
 //! Sets of values, which find the items whose value came before.
 
-ghost use Rattle.std.specs.Prelude.{◌≡◌, ◌≤◌, [], ◌∷◌, ◌++◌, ℕ, List, Option, None, take, true, false, vec_len, OnOk};
+ghost use Rattle.std.specs.Prelude.{◌≡◌, ◌<◌, ◌≤◌, [], ◌∷◌, ◌++◌, ℕ, List, Option, None, take, true, false, length, vec_len, OnOk};
 ghost use Rattle.std.specs.Ordering.{int_eq};
 ghost use Rattle.lambda_values.specs.declared.item.Item.{Item as meant_item};
 ghost use Rattle.sort_ops.specs.Firsts.{firsts, is_among};
@@ -158,7 +158,8 @@ pub(crate) fn take_out_by_classes(items: &mut Vec<Item>) -> Result<(), NoMemory>
 
 /// Whether each value is greater than the one before it, or each is less. Then all are different.
 pub(crate) fn rise_or_fall(items: &[Item]) -> bool
-    ensures { result ≡ true → AreOnce None items.now }
+    ensures once { result ≡ true → AreOnce None items.now }
+    ensures some { result ≡ false → 0 < length items.now }
 {
     items.is_sorted_by(|left, right| left.value < right.value)
         || items.is_sorted_by(|left, right| right.value < left.value)

@@ -1,7 +1,7 @@
 //! Items, and which of them have new values.
 
 ghost use Rattle.std.specs.Prelude.{◌≡◌, ◌<◌, ◌≤◌, ◌+◌, ℕ, [], ◌++◌, length, vec_len, vec_capacity};
-ghost use Rattle.std.specs.Prelude.{true, None, IfOk, IfSome, OnErr, OnOk};
+ghost use Rattle.std.specs.Prelude.{false, true, None, IfOk, IfSome, OnErr, OnOk};
 ghost use Rattle.sort_ops.specs.declared.lookup.Lookup.{Lookup};
 ghost use Rattle.sort_ops.specs.Firsts.{firsts};
 ghost use Rattle.sort_ops.specs.NewValues.{AreKnown, AreNoted};
@@ -147,7 +147,8 @@ impl NewValues {
 
     /// The items whose value is new.
     pub(crate) fn into_items(self) -> Result<Vec<Item>, NoMemory>
-        ensures { IfOk result (λ items. items.items ≡ self) }
+        ensures ok { IfOk result (λ items. items.items ≡ self) }
+        ensures refused { OnErr result (0 < length self) }
     {
         let NewValues {
             mut items,
@@ -187,6 +188,7 @@ fn take_out_new(items: &mut Vec<Item>, known: &mut usize, lookup: &mut Lookup, l
     ensures known { AreKnown items.new.items known.new lookup.new }
     ensures same { firsts [] items.new.items ≡ firsts [] items.old.items }
     ensures new { result ≡ true → firsts [] items.new.items ≡ items.new.items }
+    ensures some { result ≡ false → least ≡ 0 → 0 < length items.old.items }
 {
     if items.len() - *known >= MANY {
         *lookup = Lookup::without_set(*items.allocator());
@@ -211,6 +213,7 @@ fn take_out_all(items: &mut Vec<Item>, known: &mut usize, lookup: &mut Lookup) -
     ensures known { AreKnown items.new.items known.new lookup.new }
     ensures same { firsts [] items.new.items ≡ firsts [] items.old.items }
     ensures new { result ≡ true → firsts [] items.new.items ≡ items.new.items }
+    ensures some { result ≡ false → 0 < length items.old.items }
 {
     if rise_or_fall(items) {
         *lookup = Lookup::without_set(*items.allocator());

@@ -17,4 +17,4 @@ returns-clause-new c = λ whole.
 pub returns-then-rise_or_fall-clause-new : goal.returns-then-rise_or_fall-clause-new
 returns-then-rise_or_fall-clause-new c = λ done.
     own_firsts c.args.items.now.items (subst (AreOnce None) c.deref.ensures.value
-    (c.rise_or_fall.ensures c.if-rise_or_fall.true))
+    (c.rise_or_fall.ensures.once c.if-rise_or_fall.true))

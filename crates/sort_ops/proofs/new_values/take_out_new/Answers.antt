@@ -1,9 +1,10 @@
-use Rattle.std.proofs.Common.{◌≡◌, true, false, None, Option, ℕ, [], Vec, Global, take, sym, ap, subst, ◌∙◌}
+use Rattle.std.proofs.Common.{◌≡◌, true, false, None, Option, ℕ, [], Vec, Global, ◌<◌, length, take, sym, ap, subst}
+use Rattle.std.proofs.Common.{◌∙◌}
 use Rattle.sort_ops.specs.declared.lookup.Lookup.{Lookup}
 use Rattle.lambda_values.specs.declared.item.Item.{Item}
 use Rattle.sort_ops.specs.Firsts.{firsts}
 use Rattle.sort_ops.specs.NewValues.{AreOnce}
-use Rattle.sort_ops.proofs.NewLemmas.{own_firsts}
+use Rattle.sort_ops.proofs.NewLemmas.{own_firsts, some_before}
 use Rattle.sort_ops.proofs.new_values.take_out_new.Goals.{then-len-known-ge-MANY, else-len-known-ge-MANY}
 use Rattle.sort_ops.proofs.new_values.take_out_new.Goals.{then-not-lookup, else-not-lookup}
 use Rattle.sort_ops.proofs.new_values.take_out_new.Goals as goal
@@ -31,4 +32,15 @@ returns-then-not-lookup-2-clause-new c = λ whole.
           ]
       | else-not-lookup w ↦ absurd (let z : true ≡ false =
           sym w.if-not-lookup.false ∙ sym (ap (λ (l : Lookup). l.partial) w.lookup-is) ∙ open_now in cc)
+    ]
+
+pub returns-clause-some : goal.returns-clause-some
+returns-clause-some c = λ failed none.
+    let some_now : 0 < length c.if-not-lookup.items.items = c.take_out_all.ensures.some failed in
+    elim c.if-not-lookup.branch [
+      | then-not-lookup w ↦
+          let is = w.items-is in
+          some_before c.args.items.now.items w.take_out.new.items.items w.take_out.ensures.firsts
+          (subst (λ (v : Vec Item Global). 0 < length v.items) is some_now)
+      | else-not-lookup w ↦ subst (λ (v : Vec Item Global). 0 < length v.items) w.items-is some_now
     ]
