@@ -1,6 +1,7 @@
 //! Sets of values, which find the items whose value came before.
 
-ghost use Rattle.std.specs.Prelude.{◌≡◌, ◌<◌, ◌≤◌, [], ◌∷◌, ◌++◌, ℕ, List, Option, None, take, true, false, length, vec_len, OnOk};
+ghost use Rattle.std.specs.Prelude.{◌≡◌, ◌<◌, ◌≤◌, [], ◌∷◌, ◌++◌, ℕ, List, Option, None, take, true};
+ghost use Rattle.std.specs.Prelude.{false, length, vec_len, OnOk};
 ghost use Rattle.std.specs.Ordering.{int_eq};
 ghost use Rattle.lambda_values.specs.declared.item.Item.{Item as meant_item};
 ghost use Rattle.sort_ops.specs.Firsts.{firsts, is_among};
