@@ -101,21 +101,18 @@ impl NewValues {
         ensures ok { OnOk result (self.new ≡ firsts [] (self.old ++ others.now)) }
         ensures err { OnErr result (self.new ≡ self.old) }
     {
-        if self.has_noted_some(others) {
+        if self.is_likely_to_have(others) {
             return self.add(&ItemSlice::Items(&others.items));
         }
         self.items.extend_from_slice(&others.items)?;
         Ok(())
     }
 
-    /// Whether the value of one of some items of others is noted.
-    fn has_noted_some(&self, others: &NewValues) -> bool {
+    /// Whether the value of one of some items of others is noted, or none is noted yet.
+    fn is_likely_to_have(&self, others: &NewValues) -> bool {
         let step = others.items.len() / SAMPLES + 1;
-        others
-            .items
-            .iter()
-            .step_by(step)
-            .any(|item| self.noted.has(*item))
+        let mut some = others.items.iter().step_by(step);
+        self.noted.is_empty() || some.any(|item| self.noted.has(*item))
     }
 
     /// Takes out items whose value isn't new. The result is how many are left, if all of these have new values: it is

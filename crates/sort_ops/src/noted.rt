@@ -35,6 +35,11 @@ impl Noted {
         }
     }
 
+    /// Whether no value is noted.
+    pub(crate) fn is_empty(&self) -> bool {
+        self.values.is_empty()
+    }
+
     /// The place of a value.
     fn place(value: i64) -> usize {
         (spread(value) >> 53) as usize
