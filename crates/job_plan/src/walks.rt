@@ -7,6 +7,7 @@ ghost use Rattle.job_routes.specs.Legs.{leg_in, legs_in, segment_in, leg_outcome
 ghost use Rattle.job_plan.specs.Plans.{plan_in, planned_answer};
 ghost use Rattle.prefix_walks.specs.Pieces.{piece_of};
 
+use crate::given::Given;
 use crate::leaves::leaf_until;
 use crate::part::Part;
 use crate::plan::JobPlan;
@@ -81,12 +82,12 @@ fn walk_legs<'p>(
         let outcome = walk_leg(alloc, last, source, tree, env, registers)?;
         return Ok(outcome.answer());
     };
-    let given = walk_leg(alloc, leg, source, tree, env, registers)?.walk();
+    let given = Given::of(leg, walk_leg(alloc, leg, source, tree, env, registers)?);
     walk_legs(
         alloc,
         later,
         last,
-        Source::of_given(&given),
+        source.given(&given),
         tree,
         env,
         registers,

@@ -13,6 +13,7 @@ ghost use Rattle.job_routes.specs.Building.{HasNext, IsClean, begun_walk};
 ghost use Rattle.job_routes.specs.Legs.{end_in, leg_in, legs_in, number_after, walk_through};
 ghost use Rattle.job_routes.specs.Legs.{ended, given_walk, legs_answer, scanned, windowed};
 
+use crate::cutting::cut_leg;
 use crate::ends::SegmentEnd;
 use crate::leg::{Leg, Link};
 use crate::numbered_stages::NumberedStages;
@@ -261,6 +262,7 @@ pub fn legs_of(
     alloc: Global,
     stages: Vec<JobStage>,
     terminal: Terminal,
+    own: bool,
 ) -> Result<(Vec<Leg>, Leg), NoMemory>
     requires few { length stages.items ≤ 32 }
     ensures { IfOk result (λ made. (env : Numbers) (ss : List AbstractPlainSource)
@@ -276,6 +278,21 @@ pub fn legs_of(
     begun.ask_for(&end);
     let walked = begun.end_for(end);
     begun.drop_places(&walked);
-    let last = begun.take_leg(walked);
-    Ok((begun.scans, last))
+    let mut last = begun.take_leg(walked);
+    let mut scans = begun.scans;
+    if own {
+        let first = match scans.first_mut() {
+            Some(leg) => leg,
+            None => &mut last,
+        };
+        if let Some(search) = cut_leg(alloc, first)? {
+            let mut all = Vec::new(alloc);
+            all.push(search)?;
+            for leg in scans {
+                all.push(leg)?;
+            }
+            return Ok((all, last));
+        }
+    }
+    Ok((scans, last))
 }

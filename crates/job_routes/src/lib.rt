@@ -14,6 +14,8 @@
 
 mod asking;
 mod building;
+mod copies;
+mod cutting;
 mod ends;
 mod fallback;
 mod leg;
