@@ -5,7 +5,7 @@ ghost use Rattle.job_plan.specs.declared.part.Part.TheVariants as part;
 use crate::end_part::{EndPart, LastStage};
 use crate::fronts::undecided;
 use batch_eval::LaneItems;
-use find_ops::{FindPart, FindTerminal};
+use find_ops::FindPart;
 use job_routes::SegmentEnd;
 use trace::{End, Item, NoMemory};
 
@@ -15,8 +15,6 @@ impl EndPart for FindPart {
     fn push(&mut self, last: LastStage<'_, '_>, item: Item) -> Result<(), NoMemory> {
         if let SegmentEnd::Find(find) = last.end {
             *self = self.look_at(find, last.number, last.env, item);
-        } else {
-            *self = self.look_at(&FindTerminal::First, last.number, last.env, item);
         }
         Ok(())
     }
@@ -30,8 +28,6 @@ impl EndPart for FindPart {
         if let SegmentEnd::Find(find) = last.end {
             let first = undecided(find, last.env, lanes, room);
             *self = self.look_after(find, last.number, last.env, &lanes, first);
-        } else {
-            *self = self.look_after(&FindTerminal::First, last.number, last.env, &lanes, 0);
         }
         Ok(())
     }

@@ -8,7 +8,7 @@ use crate::plan::JobPlan;
 use job_language::PlainSource;
 
 /// Whether a source is the array of an earlier job.
-pub(crate) fn has_array(sources: &[PlainSource]) -> bool
+fn has_array(sources: &[PlainSource]) -> bool
     ensures { result ≡ false → (named : List EarlierJob)
         → all_put_in named (sources_of sources.now) ≡ sources_of sources.now }
 {

@@ -19,7 +19,7 @@ use crate::fold_part::FoldPart;
 use crate::found::{answer_of, exact_answer};
 use crate::sorted_end::sorted_walk;
 use batch_eval::{FlaggedLanes, LaneItems};
-use find_ops::{FindPart, FindTerminal};
+use find_ops::FindPart;
 use job_routes::{Outcome, Segment, SegmentEnd};
 use lambda_values::Env;
 use prefix_walks::PrefixPart;
@@ -90,7 +90,6 @@ impl<'p> Part<'p> {
             SegmentEnd::ExactSum => Part::Exact(SumPart::none()),
             SegmentEnd::Sorted { most, .. } => Part::Sorted(SortedPart::none(alloc, *most)),
             SegmentEnd::Distinct { most } => Part::Distinct(DistinctPart::none(alloc, *most)),
-            SegmentEnd::Cut { .. } => Part::Find(FindPart::none(&FindTerminal::First, End::Done)),
         }
     }
 

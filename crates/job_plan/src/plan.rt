@@ -10,7 +10,6 @@ ghost use Rattle.job_routes.specs.Legs.{leg_in, leg_at};
 use crate::lent_arrays::lent_arrays;
 use crate::likely::likely_size;
 use crate::likely_values::{values_of_any, values_of_some};
-use crate::named::has_array;
 use crate::names::named_in;
 use job_language::{Job, PlainSource};
 use job_meaning::Answer;
@@ -103,7 +102,7 @@ impl<'c> JobPlan<'c> {
             table,
         } = job;
         let fallback = fallback_of(&terminal, on_fault);
-        let (scans, last) = legs_of(alloc, stages, terminal, !has_array(&sources))?;
+        let (scans, last) = legs_of(alloc, stages, terminal)?;
         let first = scans.first().unwrap_or(&last);
         let likely_size = likely_size(&sources, first.window, before);
         let stages = &first.last.stages.list;

@@ -119,13 +119,7 @@ impl<'g, 'a, 'c> Source<'g, 'a, 'c> {
     pub fn of_leg(self, leg: &Leg) -> Source<'g, 'a, 'c>
         ensures { walk_in result ≡ leg_walk (leg_in leg.now) (walk_in self.entry) }
     {
-        self.within(leg.window)
-    }
-
-    /// These positions of the source.
-    pub(crate) fn within(self, window: Window) -> Source<'g, 'a, 'c>
-    {
-        let Window { from, to } = window;
+        let Window { from, to } = leg.window;
         Source {
             base: self.base,
             window: self.window.within(from, to),

@@ -7,7 +7,6 @@ ghost use Rattle.job_routes.specs.Legs.{leg_in, legs_in, segment_in, leg_outcome
 ghost use Rattle.job_plan.specs.Plans.{plan_in, planned_answer};
 ghost use Rattle.prefix_walks.specs.Pieces.{piece_of};
 
-use crate::given::Given;
 use crate::leaves::leaf_until;
 use crate::part::Part;
 use crate::plan::JobPlan;
@@ -82,12 +81,12 @@ fn walk_legs<'p>(
         let outcome = walk_leg(alloc, last, source, tree, env, registers)?;
         return Ok(outcome.answer());
     };
-    let given = Given::of(leg, walk_leg(alloc, leg, source, tree, env, registers)?);
+    let given = walk_leg(alloc, leg, source, tree, env, registers)?.walk();
     walk_legs(
         alloc,
         later,
         last,
-        source.given(&given),
+        Source::of_given(&given),
         tree,
         env,
         registers,

@@ -13,7 +13,6 @@ ghost use Rattle.job_routes.specs.Building.{HasNext, IsClean, begun_walk};
 ghost use Rattle.job_routes.specs.Legs.{end_in, leg_in, legs_in, number_after, walk_through};
 ghost use Rattle.job_routes.specs.Legs.{ended, given_walk, legs_answer, scanned, windowed};
 
-use crate::cutting::cut_leg;
 use crate::ends::SegmentEnd;
 use crate::leg::{Leg, Link};
 use crate::numbered_stages::NumberedStages;
@@ -21,7 +20,6 @@ use crate::segment::Segment;
 use batch_eval::{are_faultless, are_maps};
 use find_ops::FindTerminal;
 use job_language::{JobStage, Terminal};
-use lambda_values::LongExpr;
 use prefix_walks::{Prefix, Window};
 use slice_ops::Slice;
 use std::alloc::Global;
@@ -95,8 +93,7 @@ impl Begun {
         }
     }
 
-    /// Goes over these positions. The number of the slice that selects them goes to a map that changes nothing, if
-    /// stages come before it.
+    /// Goes over these positions. The slice that selects them is passed over.
     fn select(&mut self, window: Window) -> Result<(), NoMemory>
         requires few { number_after self.old.stages ≤ 32 }
         ensures kept { OnOk result ((self.new.scans ≡ self.old.scans) × (self.new.links ≡ self.old.links)) }
@@ -106,12 +103,7 @@ impl Begun {
         ensures number { OnOk result (number_after self.new.stages ≡ suc (number_after self.old.stages)) }
     {
         self.window = window;
-        if self.stages.list.is_empty() {
-            self.stages.first += 1;
-            return Ok(());
-        }
-        self.stages.push(Stage::Map(LongExpr::Parameter(0)))?;
-        Ok(())
+        self.stages.pass_over()
     }
 
     /// Adds a slice that a walk goes through.
@@ -258,15 +250,14 @@ impl Begun {
 }
 
 /// The legs of a job of these stages and this terminal: those that give walks, and the last one.
-pub fn legs_of(
+pub(crate) fn legs_of(
     alloc: Global,
     stages: Vec<JobStage>,
     terminal: Terminal,
-    own: bool,
 ) -> Result<(Vec<Leg>, Leg), NoMemory>
     requires few { length stages.items ≤ 32 }
     ensures { IfOk result (λ made. (env : Numbers) (ss : List AbstractPlainSource)
-        → legs_answer (record { scans = legs_in made.0.items; last = leg_in made.1 }) env (source_walk ss)
+        → legs_answer (record { search = None; scans = legs_in made.0.items; last = leg_in made.1 }) env (source_walk ss)
         ≡ answer_of (suc (length stages.items)) env (terminal_of terminal)
         (after_stages 1 (job_stages_of stages.items) env (source_walk ss))) }
 {
@@ -278,21 +269,6 @@ pub fn legs_of(
     begun.ask_for(&end);
     let walked = begun.end_for(end);
     begun.drop_places(&walked);
-    let mut last = begun.take_leg(walked);
-    let mut scans = begun.scans;
-    if own {
-        let first = match scans.first_mut() {
-            Some(leg) => leg,
-            None => &mut last,
-        };
-        if let Some(search) = cut_leg(alloc, first)? {
-            let mut all = Vec::new(alloc);
-            all.push(search)?;
-            for leg in scans {
-                all.push(leg)?;
-            }
-            return Ok((all, last));
-        }
-    }
-    Ok((scans, last))
+    let last = begun.take_leg(walked);
+    Ok((begun.scans, last))
 }

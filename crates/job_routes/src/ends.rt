@@ -52,10 +52,6 @@ pub enum SegmentEnd {
     Distinct {
         most: Option<u64>,
     },
-    /// The place of the first item: the next leg goes over the positions before it, or over those from it on.
-    Cut {
-        is_front: bool,
-    },
 }
 
 impl SegmentEnd {
@@ -100,17 +96,16 @@ impl SegmentEnd {
             SegmentEnd::Find(find) => matches!(find, FindTerminal::First),
             SegmentEnd::Array | SegmentEnd::Prefix(_) | SegmentEnd::ExactSum => false,
             SegmentEnd::Sorted { .. } | SegmentEnd::Distinct { .. } => false,
-            SegmentEnd::Cut { .. } => true,
         }
     }
 
-    /// Whether it takes all items.
+    /// Whether it takes all items of a walk without a fault, and has none itself.
     pub(crate) fn takes_all(&self) -> bool {
         match self {
             SegmentEnd::Fold(_) | SegmentEnd::Array | SegmentEnd::Prefix(_) => true,
             SegmentEnd::Sorted { .. } => true,
             SegmentEnd::Distinct { most } => most.is_none(),
-            SegmentEnd::Find(_) | SegmentEnd::ExactSum | SegmentEnd::Cut { .. } => false,
+            SegmentEnd::Find(_) | SegmentEnd::ExactSum => false,
         }
     }
 

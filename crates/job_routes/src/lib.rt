@@ -15,7 +15,6 @@
 mod asking;
 mod building;
 mod copies;
-mod cutting;
 mod ends;
 mod fallback;
 mod leg;
@@ -23,12 +22,14 @@ mod many;
 mod numbered_stages;
 mod outcome;
 mod placeless;
+mod route;
+mod searches;
 mod segment;
 
-pub use building::legs_of;
 pub use ends::{Fold, SegmentEnd};
 pub use fallback::{Fallback, fallback_of};
 pub use leg::{Leg, Link};
 pub use numbered_stages::NumberedStages;
 pub use outcome::Outcome;
+pub use route::{Route, Side, route_of};
 pub use segment::Segment;

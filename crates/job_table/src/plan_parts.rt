@@ -13,7 +13,7 @@ ghost use Rattle.job_table.specs.PlanLegs.{positions_of, size_at, upto, walk_at,
 use batch_eval::Registers;
 use early_stop::Stop;
 use job_meaning::Answer;
-use job_plan::{Given, JobPlan, Part, Source, Walked, leaf_until, streamed};
+use job_plan::{JobPlan, Part, Source, Walked, leaf_until, streamed};
 use job_routes::Leg;
 use job_runner::{NoMemory, Piece};
 use lambda_values::Env;
@@ -91,17 +91,16 @@ pub(crate) fn walked_piece<'a, W: Stop>(
 /// What the next leg goes over, of the part of a whole leg.
 pub(crate) fn next_walk<'a>(
     alloc: Global,
-    leg: &Leg,
     part: Part<'a>,
     env: &Env,
-) -> Result<Given<'a>, NoMemory>
+) -> Result<GivenWalk<'a>, NoMemory>
     ensures { IfOk result (λ given. (chain : AbstractChain) (k : ℕ) → chain.numbers ≡ env.now
         → k < last_leg chain.legs
         → PartStands chain k 0 (size_at chain k) part.entry → given ≡ given_at chain (k + 1)) }
 {
     match part.finish(alloc, env)? {
-        Some(outcome) => Ok(Given::of(leg, outcome)),
-        None => Ok(Given::Walk(GivenWalk::ended(End::Done))),
+        Some(outcome) => Ok(outcome.walk()),
+        None => Ok(GivenWalk::ended(End::Done)),
     }
 }
 

@@ -12,9 +12,10 @@ use crate::planned::{PlanBrand, PlanJobs};
 use batch_eval::Registers;
 use early_stop::Stop;
 use job_meaning::Answer;
-use job_plan::{Given, Part, Source, Walked};
+use job_plan::{Part, Source, Walked};
 use job_runner::{EarlierAnswers, LegInput, NoMemory, Piece};
 use lambda_values::Env;
+use prefix_walks::GivenWalk;
 use std::alloc::Global;
 
 impl<'a, 'c, P: PlanBrand> PlanJobs<'a, 'c, P> {
@@ -25,7 +26,7 @@ impl<'a, 'c, P: PlanBrand> PlanJobs<'a, 'c, P> {
         alloc: Global,
         piece: Piece,
         in_order: bool,
-        input: LegInput<'_, '_, Given<'a>, Env<'c>, E>,
+        input: LegInput<'_, '_, GivenWalk<'a>, Env<'c>, E>,
         registers: &mut Registers,
         stop: &mut W,
     ) -> Result<Part<'a>, NoMemory>
@@ -45,8 +46,8 @@ impl<'a, 'c, P: PlanBrand> PlanJobs<'a, 'c, P> {
         let plan = self.job(piece.job);
         let env = input.given;
         match input.source {
-            Some(given) => {
-                let source = Source::of_sources(&plan.sources).given(given);
+            Some(walk) => {
+                let source = Source::of_given(walk);
                 let walked = Walked { source, env };
                 walked_piece(alloc, plan, piece, in_order, walked, registers, stop)
             }
