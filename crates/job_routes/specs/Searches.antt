@@ -1,9 +1,10 @@
 -- Condition: a leg that looks for the place at which a slice of another one cuts.
-use Rattle.std.specs.Prelude.{◌≡◌, ◌≢◌, ℕ, suc, ◌+◌, ◌≤◌, Bool, true, false, List, [], ◌∷◌, ◌++◌, length, Option}
+use Rattle.std.specs.Prelude.{◌≡◌, ◌≢◌, ℕ, suc, ◌≤◌, Bool, true, false, List, [], ◌∷◌}
 use Rattle.lambda_values.specs.Earlier.{Numbers}
 use Rattle.lambda_values.specs.Term.{Truth, opposite, row}
-use Rattle.trace.specs.Stages.{AbstractStage, map, filter, flat_map, stages_of}
-use Rattle.slice_ops.specs.Slices.{AbstractSlice, limit, skip, slice_of, sliced}
+use Rattle.trace.specs.Stages.{AbstractStage, map, filter, flat_map, stages_of, through}
+use Rattle.trace.specs.Trace.{Trace}
+use Rattle.slice_ops.specs.Slices.{AbstractSlice, limit, slice_of, sliced}
 use Rattle.find_ops.specs.Finds.{first as find_first}
 use Rattle.job_language.specs.Jobs.{AbstractPlainSource}
 use Rattle.job_meaning.specs.Walks.{source_walk}
@@ -11,8 +12,10 @@ use Rattle.job_routes.specs.declared.leg.Leg.{Leg}
 use Rattle.job_routes.specs.declared.leg.Link.{Link}
 use Rattle.job_routes.specs.declared.numbered_stages.NumberedStages.{NumberedStages}
 use Rattle.job_routes.specs.declared.route.Side.{Side}
-use Rattle.job_routes.specs.Legs.{AbstractLeg, finding, leg_in, leg_outcome, number_after, outcome_of, searched}
-use Rattle.job_routes.specs.Legs.{segment_in, walk_through, windowed}
+use Rattle.job_routes.specs.declared.outcome.Outcome.{Outcome}
+use Rattle.prefix_walks.specs.declared.window.Window.{Window}
+use Rattle.job_routes.specs.Legs.{ended, finding, leg_in, leg_outcome, number_after, outcome_of, searched, segment_in}
+use Rattle.job_routes.specs.Legs.{walk_through, windowed}
 
 -- whether stages are maps and filters: an item that they give has the place of the one that it came from
 abbrev pub keep_places : List AbstractStage → Bool
@@ -21,24 +24,19 @@ keep_places (map e ∷ gs) = keep_places gs
 keep_places (filter p ∷ gs) = keep_places gs
 keep_places (flat_map g ∷ gs) = false
 
--- the leg that looks, at these positions and after these stages, for the place of the first item at which a test is
--- false
-abbrev pub test_leg : ℕ → Option ℕ → ℕ → List AbstractStage → Truth → AbstractLeg
-test_leg from to n gs p = record {
-  from = from;
-  to = to;
-  links = [];
-  last = record { first = n; stages = gs ++ filter (opposite p) ∷ map row ∷ []; ending = finding find_first };
-}
+-- what a leg gives that looks for the place of the first item of a walk, by a map, the stage with this number
+abbrev pub place_found : ℕ → Numbers → Trace → Outcome
+place_found n env t = ended (finding find_first) (suc n) env (through n (map row) env t)
 
--- the leg that looks for the place of the item after the first k ones
-abbrev pub skip_leg : ℕ → Option ℕ → ℕ → List AbstractStage → ℕ → AbstractLeg
-skip_leg from to n gs k = record {
-  from = from;
-  to = to;
-  links = record { first = n; stages = gs; slice = skip k } ∷ [];
-  last = record { first = suc (n + length gs); stages = map row ∷ []; ending = finding find_first };
-}
+-- a leg that looks for the place of the first item, at these positions, of what this makes of a walk after these stages
+pub record Finds (w : Window) (s : NumberedStages) (does : Numbers → Trace → Trace) (l : Leg) : Type 0 where
+  pub window : l.window ≡ w
+  pub outcome : (env : Numbers) (t : Trace) → leg_outcome (leg_in l) env t
+      ≡ place_found (suc (number_after s)) env (does env (walk_through s env (windowed w.from w.to t)))
+
+-- the items at which a test isn't true, by a filter after these stages
+abbrev pub failing : NumberedStages → Truth → Numbers → Trace → Trace
+failing s p env t = through (number_after s) (filter (opposite p)) env t
 
 -- a leg with one slice, which is no `limit`; numbers go on after it
 pub record HasOneSlice (l : Leg) : Type 0 where

@@ -1,8 +1,8 @@
 //! Copies of stages that keep the places of items.
 
-ghost use Rattle.std.specs.Prelude.{◌≡◌, ◌++◌, IfOk, IfSome, true};
+ghost use Rattle.std.specs.Prelude.{◌≡◌, ◌∷◌, ◌++◌, [], IfOk, IfSome, true};
 ghost use Rattle.lambda_values.specs.Term.{long_of, truth_of};
-ghost use Rattle.trace.specs.Stages.{stages_of};
+ghost use Rattle.trace.specs.Stages.{stage_of, stages_of};
 ghost use Rattle.job_routes.specs.Searches.{IsCopy, keep_places};
 
 use crate::numbered_stages::NumberedStages;
@@ -96,6 +96,18 @@ pub(crate) fn truth_copy(alloc: Global, expr: &BoolExpr) -> Result<BoolExpr, NoM
     }
 }
 
+/// A copy of a map or a filter; none of a `flatMap`.
+fn stage_copy(alloc: Global, stage: &Stage) -> Result<Option<Stage>, NoMemory>
+    ensures copy { IfOk result (λ found. IfSome found (λ copy. stage_of copy ≡ stage_of stage.now)) }
+    ensures places { IfOk result (λ found. IfSome found (λ _. keep_places (stage_of stage.now ∷ []) ≡ true)) }
+{
+    match stage {
+        Stage::Map(image) => Ok(Some(Stage::Map(long_copy(alloc, image)?))),
+        Stage::Filter(test) => Ok(Some(Stage::Filter(truth_copy(alloc, test)?))),
+        Stage::FlatMap(_) => Ok(None),
+    }
+}
+
 /// Adds copies of these stages, as long as they are maps and filters. Whether all of them are.
 fn add_copies(alloc: Global, from: &[Stage], to: &mut Vec<Stage>) -> Result<bool, NoMemory>
     ensures copies { IfOk result (λ all. all ≡ true
@@ -105,10 +117,8 @@ fn add_copies(alloc: Global, from: &[Stage], to: &mut Vec<Stage>) -> Result<bool
     let Some((stage, later)) = from.split_first() else {
         return Ok(true);
     };
-    let copy = match stage {
-        Stage::Map(image) => Stage::Map(long_copy(alloc, image)?),
-        Stage::Filter(test) => Stage::Filter(truth_copy(alloc, test)?),
-        Stage::FlatMap(_) => return Ok(false),
+    let Some(copy) = stage_copy(alloc, stage)? else {
+        return Ok(false);
     };
     to.push(copy)?;
     add_copies(alloc, later, to)

@@ -14,9 +14,9 @@ ghost use Rattle.job_language.specs.Jobs.{AbstractPlainSource};
 ghost use Rattle.job_meaning.specs.Walks.{source_walk};
 ghost use Rattle.job_routes.specs.Legs.{leg_in, leg_outcome, number_after, outcome_of, searched, segment_in};
 ghost use Rattle.job_routes.specs.Legs.{walk_through};
-ghost use Rattle.job_routes.specs.Searches.{HasOneSlice, IsReady, IsSearched, skip_leg, test_leg};
+ghost use Rattle.job_routes.specs.Searches.{Finds, HasOneSlice, IsReady, IsSearched, failing};
 ghost use Rattle.job_routes.specs.declared.route.Side.TheVariants as side;
-ghost use Rattle.slice_ops.specs.Slices.{drop_while, limit, skip, slice_of, take_while};
+ghost use Rattle.slice_ops.specs.Slices.{drop_while, limit, skip, skipped, slice_of, take_while};
 
 use crate::copies::truth_copy;
 use crate::ends::SegmentEnd;
@@ -35,7 +35,9 @@ use trace::{NoMemory, Stage};
 
 /// Whether a search gains: no `limit` has to be found, and what ends the walk behind a `takeWhile` doesn't end it
 /// earlier.
-fn gains(slice: &Slice, later: &Segment) -> bool {
+fn gains(slice: &Slice, later: &Segment) -> bool
+    ensures { result ≡ true → (k : ℕ) → slice_of slice.now ≢ limit k }
+{
     match slice {
         Slice::Limit(_) => false,
         Slice::Skip(_) | Slice::DropWhile(_) => true,
@@ -50,9 +52,14 @@ fn has_one_slice(leg: &Leg) -> bool
     let Some((link, later)) = leg.links.split_first() else {
         return false;
     };
-    let next = link.stages.next();
-    let is_next = next < 32 && leg.last.stages.first == next + 1;
-    later.is_empty() && is_next && gains(&link.slice, &leg.last)
+    if !later.is_empty() {
+        return false;
+    }
+    let number = link.stages.next();
+    if number >= 32 || leg.last.stages.first != number + 1 {
+        return false;
+    }
+    gains(&link.slice, &leg.last)
 }
 
 /// The leg that looks for the first item at which a test isn't true.
@@ -63,8 +70,7 @@ fn test_search(
     test: BoolExpr,
 ) -> Result<Leg, NoMemory>
     requires few { number_after stages ≤ 31 }
-    ensures { IfOk result (λ leg. leg_in leg
-        ≡ test_leg window.from window.to stages.first (stages_of stages.list.items) (truth_of test)) }
+    ensures { IfOk result (Finds window stages (failing stages (truth_of test))) }
 {
     let mut sought = stages;
     let opposite = BoolExpr::Not(Box::new(alloc, test)?);
@@ -91,8 +97,7 @@ fn skip_search(
     count: u64,
 ) -> Result<Leg, NoMemory>
     requires few { number_after stages ≤ 31 }
-    ensures { IfOk result (λ leg. leg_in leg
-        ≡ skip_leg window.from window.to stages.first (stages_of stages.list.items) count) }
+    ensures { IfOk result (Finds window stages (λ env t. skipped count t)) }
 {
     let mut sought = NumberedStages::none(alloc, stages.next() + 1);
     sought.push(Stage::Map(LongExpr::Row))?;

@@ -1,0 +1,101 @@
+-- What a leg makes of the positions that a search before it leaves.
+use Rattle.std.proofs.Common.{◌≡◌, ℕ, zero, suc, ◌+◌, List, [], length, drop, refl, sym, ap, ◌∙◌}
+use Rattle.lambda_values.specs.Earlier.{Numbers}
+use Rattle.lambda_values.specs.Term.{Truth, opposite}
+use Rattle.lambda_values.specs.declared.item.Item.{Item}
+use Rattle.trace.specs.declared.item.End.{End}
+use Rattle.trace.specs.Stages.{filter, pipe, stages_of, through}
+use Rattle.trace.specs.Trace.{Trace, trace}
+use Rattle.trace.proofs.JoinLemmas.{pipe_ended}
+use Rattle.slice_ops.specs.Slices.{dropped, skipped, taken}
+use Rattle.prefix_walks.specs.declared.window.Window.{Window}
+use Rattle.job_language.specs.Jobs.{AbstractPlainSource}
+use Rattle.job_meaning.specs.Walks.{source_walk}
+use Rattle.job_routes.specs.declared.leg.Leg.{Leg}
+use Rattle.job_routes.specs.declared.numbered_stages.NumberedStages.{NumberedStages}
+use Rattle.job_routes.specs.declared.outcome.Outcome.{Outcome}
+use Rattle.job_routes.specs.declared.route.Side.{Side}
+use Rattle.job_routes.specs.declared.route.Side.TheVariants as side
+use Rattle.job_routes.specs.Legs.{given_answer, left_by_search, leg_in, number_after, searched, walk_through, windowed}
+use Rattle.job_routes.specs.Searches.{Finds, IsCopy, failing}
+use Rattle.job_routes.proofs.PlaceOfItem.{of_window}
+use Rattle.job_routes.proofs.SearchLemmas.{drop_left, finds_place, place_in, skip_left, take_left, without_item, without_stop}
+
+-- what is left by a search whose stages are copies
+pub search_left : (d : Side) (w : Window) (s copy : NumberedStages) (does : Numbers → Trace → Trace) (search : Leg)
+    → IsCopy s copy → Finds w copy does search → (env : Numbers) (t : Trace)
+    → searched d (leg_in search) env t
+    ≡ left_by_search d w.from (place_in (does env (walk_through s env (windowed w.from w.to t)))) (windowed w.from w.to t)
+search_left d w s copy does search copied finds env t =
+    let u : Trace = windowed w.from w.to t in
+    (λ i. left_by_search d (finds.window i).from (given_answer (finds.outcome env t i))
+    (windowed (finds.window i).from (finds.window i).to t))
+    ∙ ap (λ (o : Outcome). left_by_search d w.from (given_answer o) u)
+    (finds_place (suc (number_after copy)) env (does env (walk_through copy env u)))
+    ∙ (λ i. left_by_search d w.from (place_in (does env (pipe (copied.first i) (copied.stages i) env u))) u)
+
+-- the number of the slice
+same_number : (s copy : NumberedStages) → IsCopy s copy → number_after copy ≡ number_after s
+same_number s copy copied = λ i. copied.first i + length (copied.stages i)
+
+pub test_left : (d : Side) (w : Window) (s copy : NumberedStages) (p q : Truth) (search : Leg) → IsCopy s copy → q ≡ p
+    → Finds w copy (failing copy q) search → (env : Numbers) (t : Trace) → searched d (leg_in search) env t
+    ≡ left_by_search d w.from (place_in (failing s p env (walk_through s env (windowed w.from w.to t))))
+    (windowed w.from w.to t)
+test_left d w s copy p q search copied same finds env t =
+    let u : Trace = windowed w.from w.to t in
+    search_left d w s copy (failing copy q) search copied finds env t
+    ∙ (λ i. left_by_search d w.from
+    (place_in (through (same_number s copy copied i) (filter (opposite (same i))) env (walk_through s env u))) u)
+
+module _ (s copy : NumberedStages) (copied : IsCopy s copy) (env : Numbers) (w : Window)
+    (ss : List AbstractPlainSource) where
+  abbrev goes : Trace → Trace
+  goes t = walk_through s env t
+
+  abbrev m : ℕ
+  m = number_after s
+
+  goes_ended : (e : End) → goes (trace [] e) ≡ trace [] e
+  goes_ended e = pipe_ended s.first (stages_of s.list.items) env e
+
+  abbrev u : Trace
+  u = windowed w.from w.to (source_walk ss)
+
+  no_rest : (k : ℕ) → drop {A = Item} k [] ≡ []
+  no_rest zero = refl
+  no_rest (suc k) = refl
+
+  pub take_window : (p : Truth) → through m (filter p) env
+      (goes (left_by_search side.Before w.from (place_in (failing s p env (goes u))) u)) ≡ taken p m env (goes u)
+  take_window p = of_window
+      (λ (t : Trace). through m (filter p) env
+      (goes (left_by_search side.Before w.from (place_in (failing s p env (goes t))) t)) ≡ taken p m env (goes t))
+      w.from w.to ss
+      (λ e. (λ i. through m (filter p) env
+      (goes (left_by_search side.Before w.from (place_in (failing s p env (goes_ended e i))) (trace [] e))))
+      ∙ ap (λ (t : Trace). through m (filter p) env (goes t)) (without_stop w.from e (trace [] e))
+      ∙ ap (through m (filter p) env) (goes_ended e)
+      ∙ sym (ap (taken p m env) (goes_ended e)))
+      (λ us few. take_left s.first (stages_of s.list.items) env copied.places w.from us few m p)
+
+  pub drop_window : (p : Truth)
+      → goes (left_by_search side.From w.from (place_in (failing s p env (goes u))) u) ≡ dropped p m env (goes u)
+  drop_window p = of_window
+      (λ (t : Trace). goes (left_by_search side.From w.from (place_in (failing s p env (goes t))) t)
+      ≡ dropped p m env (goes t))
+      w.from w.to ss
+      (λ e. (λ i. goes (left_by_search side.From w.from (place_in (failing s p env (goes_ended e i))) (trace [] e)))
+      ∙ ap goes (without_item w.from e (trace [] e)) ∙ goes_ended e ∙ sym (ap (dropped p m env) (goes_ended e)))
+      (λ us few. drop_left s.first (stages_of s.list.items) env copied.places w.from us few m p)
+
+  pub skip_window : (k : ℕ)
+      → goes (left_by_search side.From w.from (place_in (skipped k (goes u))) u) ≡ skipped k (goes u)
+  skip_window k = of_window
+      (λ (t : Trace). goes (left_by_search side.From w.from (place_in (skipped k (goes t))) t) ≡ skipped k (goes t))
+      w.from w.to ss
+      (λ e. let none : skipped k (goes (trace [] e)) ≡ trace [] e =
+      ap (skipped k) (goes_ended e) ∙ ap (λ xs. trace xs e) (no_rest k) in
+      ap (λ (t : Trace). goes (left_by_search side.From w.from (place_in t) (trace [] e))) none
+      ∙ ap goes (without_item w.from e (trace [] e)) ∙ goes_ended e ∙ sym none)
+      (λ us few. skip_left s.first (stages_of s.list.items) env copied.places w.from us few k)
