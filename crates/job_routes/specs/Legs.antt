@@ -198,8 +198,8 @@ abbrev pub side_of : Side → ℕ → Trace → Trace
 side_of side.Before k t = windowed 0 (Some k) t
 side_of side.From k t = windowed k None t
 
--- helper: what a search without a place leaves: all, or nothing but the fault that it met
-abbrev unfound : Side → Answer → Trace → Trace
+-- what a search without a place leaves: all, or nothing but the fault that it met
+abbrev pub unfound : Side → Answer → Trace → Trace
 unfound side.Before a t = t
 unfound side.From (answer.Fault f) t = trace [] (end.Fault f)
 unfound side.From (answer.Optional v) t = nothing
