@@ -4,11 +4,11 @@ ghost use Rattle.std.specs.Prelude.{◌≡◌, ◌<◌, ◌^◌, length};
 ghost use Rattle.trace.specs.Trace.{Trace};
 ghost use Rattle.job_language.specs.Jobs.{sources_of};
 ghost use Rattle.job_meaning.specs.Walks.{source_walk};
-ghost use Rattle.job_routes.specs.Legs.{leg_in, leg_walk, left_by_search, side_of, unfound, windowed};
+ghost use Rattle.job_routes.specs.Legs.{leg_in, leg_walk, left_after, left_by_search, side_of, unfound, windowed};
 
 use job_language::PlainSource;
 use job_meaning::Answer;
-use job_routes::{Leg, Side};
+use job_routes::{Leg, SegmentEnd, Side};
 use prefix_walks::{GivenWalk, Window};
 use std::marker::Model;
 use trace::End;
@@ -56,6 +56,21 @@ impl<'a, 'c> Given<'a, 'c> {
 
     /// Of a search over these sources with this answer.
     pub fn searched(
+        sources: &'a [PlainSource<'c>],
+        leg: &Leg,
+        side: Side,
+        answer: Answer,
+    ) -> Given<'a, 'c>
+        ensures { result ≡ left_after side (leg_in leg.now) answer (source_walk (sources_of sources.now)) }
+    {
+        if matches!(leg.last.end, SegmentEnd::ExactSum) {
+            return Given::walk(GivenWalk::ended(End::Done));
+        }
+        Given::left(sources, leg, side, answer)
+    }
+
+    /// What a search leaves that has this answer.
+    fn left(
         sources: &'a [PlainSource<'c>],
         leg: &Leg,
         side: Side,

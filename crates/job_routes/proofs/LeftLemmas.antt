@@ -1,11 +1,11 @@
 -- What a leg makes of the positions that a search before it leaves.
-use Rattle.std.proofs.Common.{◌≡◌, ℕ, zero, suc, ◌+◌, List, [], length, drop, refl, sym, ap, ◌∙◌}
+use Rattle.std.proofs.Common.{◌≡◌, Bool, if◌then◌else◌, ℕ, zero, suc, ◌+◌, List, [], length, drop, refl, sym, ap, ◌∙◌}
 use Rattle.lambda_values.specs.Earlier.{Numbers}
 use Rattle.lambda_values.specs.Term.{Truth, opposite}
 use Rattle.lambda_values.specs.declared.item.Item.{Item}
 use Rattle.trace.specs.declared.item.End.{End}
 use Rattle.trace.specs.Stages.{filter, pipe, stages_of, through}
-use Rattle.trace.specs.Trace.{Trace, trace}
+use Rattle.trace.specs.Trace.{Trace, trace, nothing}
 use Rattle.trace.proofs.JoinLemmas.{pipe_ended}
 use Rattle.slice_ops.specs.Slices.{dropped, skipped, taken}
 use Rattle.prefix_walks.specs.declared.window.Window.{Window}
@@ -16,7 +16,7 @@ use Rattle.job_routes.specs.declared.numbered_stages.NumberedStages.{NumberedSta
 use Rattle.job_routes.specs.declared.outcome.Outcome.{Outcome}
 use Rattle.job_routes.specs.declared.route.Side.{Side}
 use Rattle.job_routes.specs.declared.route.Side.TheVariants as side
-use Rattle.job_routes.specs.Legs.{given_answer, left_by_search, leg_in, number_after, searched, walk_through, windowed}
+use Rattle.job_routes.specs.Legs.{given_answer, left_by_search, leg_in, leg_outcome, number_after, searched, walk_through, windowed}
 use Rattle.job_routes.specs.Searches.{Finds, IsCopy, failing}
 use Rattle.job_routes.proofs.PlaceOfItem.{of_window}
 use Rattle.job_routes.proofs.SearchLemmas.{drop_left, finds_place, place_in, skip_left, take_left, without_item, without_stop}
@@ -28,7 +28,10 @@ pub search_left : (d : Side) (w : Window) (s copy : NumberedStages) (does : Numb
     ≡ left_by_search d w.from (place_in (does env (walk_through s env (windowed w.from w.to t)))) (windowed w.from w.to t)
 search_left d w s copy does search copied finds env t =
     let u : Trace = windowed w.from w.to t in
-    (λ i. left_by_search d (finds.window i).from (given_answer (finds.outcome env t i))
+    ap (λ (b : Bool). if b then nothing
+    else left_by_search d search.window.from (given_answer (leg_outcome (leg_in search) env t))
+    (windowed search.window.from search.window.to t)) finds.ends
+    ∙ (λ i. left_by_search d (finds.window i).from (given_answer (finds.outcome env t i))
     (windowed (finds.window i).from (finds.window i).to t))
     ∙ ap (λ (o : Outcome). left_by_search d w.from (given_answer o) u)
     (finds_place (suc (number_after copy)) env (does env (walk_through copy env u)))

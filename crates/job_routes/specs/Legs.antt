@@ -1,5 +1,5 @@
 -- Design: the legs of a job.
-use Rattle.std.specs.Prelude.{ℕ, zero, suc, ℤ, pos, unsigned_abs, Bool, true, false, ◌||◌, ◌+◌, ◌-◌, List, [], ◌∷◌, length, map as each_of}
+use Rattle.std.specs.Prelude.{ℕ, zero, suc, ℤ, pos, unsigned_abs, Bool, true, false, if◌then◌else◌, ◌||◌, ◌+◌, ◌-◌, List, [], ◌∷◌, length, map as each_of}
 use Rattle.std.specs.Prelude.{Option, Some, None, is_some}
 use Rattle.lambda_values.specs.Earlier.{Numbers}
 use Rattle.lambda_values.specs.Term.{Truth}
@@ -218,9 +218,13 @@ left_by_search s from (answer.Truth b) t = unfound s (answer.Truth b) t
 left_by_search s from (answer.Array vs) t = unfound s (answer.Array vs) t
 left_by_search s from (answer.Unusable k) t = unfound s (answer.Unusable k) t
 
--- what a search gives of a walk
+-- what is left of a walk after a leg, as a search, gave this answer; one that ends in an exact sum leaves nothing
+abbrev pub left_after : Side → AbstractLeg → Answer → Trace → Trace
+left_after s l a t = if sums_many l.last.ending true then nothing else left_by_search s l.from a (leg_walk l t)
+
+-- what a search leaves of a walk
 abbrev pub searched : Side → AbstractLeg → Numbers → Trace → Trace
-searched s l env t = left_by_search s l.from (given_answer (leg_outcome l env t)) (leg_walk l t)
+searched s l env t = left_after s l (given_answer (leg_outcome l env t)) t
 
 -- what legs make of a walk, the first of which may be a search
 abbrev pub scanned_from : Option Side → List AbstractLeg → Numbers → Trace → Trace

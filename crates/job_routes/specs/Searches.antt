@@ -14,7 +14,7 @@ use Rattle.job_routes.specs.declared.numbered_stages.NumberedStages.{NumberedSta
 use Rattle.job_routes.specs.declared.route.Side.{Side}
 use Rattle.job_routes.specs.declared.outcome.Outcome.{Outcome}
 use Rattle.prefix_walks.specs.declared.window.Window.{Window}
-use Rattle.job_routes.specs.Legs.{ended, finding, leg_in, leg_outcome, number_after, outcome_of, searched, segment_in}
+use Rattle.job_routes.specs.Legs.{ended, finding, leg_in, leg_outcome, number_after, outcome_of, searched, segment_in, sums_many}
 use Rattle.job_routes.specs.Legs.{walk_through, windowed}
 
 -- whether stages are maps and filters: an item that they give has the place of the one that it came from
@@ -31,6 +31,7 @@ place_found n env t = ended (finding find_first) (suc n) env (through n (map row
 -- a leg that looks for the place of the first item, at these positions, of what this makes of a walk after these stages
 pub record Finds (w : Window) (s : NumberedStages) (does : Numbers → Trace → Trace) (l : Leg) : Type 0 where
   pub window : l.window ≡ w
+  pub ends : sums_many (leg_in l).last.ending true ≡ false
   pub outcome : (env : Numbers) (t : Trace) → leg_outcome (leg_in l) env t
       ≡ place_found (suc (number_after s)) env (does env (walk_through s env (windowed w.from w.to t)))
 

@@ -24,6 +24,7 @@ returns c =
     omega (arith, a, c.none-sought.ensures.0, c.next.ensures) in
     record {
       window = refl;
+      ends = refl;
       outcome = λ env t.
           let u = windowed c.args.window.from c.args.window.to t in
           let v : Trace = skipped c.args.count (walk_through s env u) in

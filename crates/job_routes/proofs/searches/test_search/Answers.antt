@@ -16,6 +16,7 @@ returns c =
     let boxed : c.in_ok-new.field-0.value ≡ c.args.test = search rules in
     record {
       window = refl;
+      ends = refl;
       outcome = λ env t.
           let u = windowed c.args.window.from c.args.window.to t in
           (λ i. ended (finding find_first) (number_after new) env

@@ -6,7 +6,7 @@ use Rattle.job_meaning.specs.declared.answer.Answer.TheVariants as answer
 use Rattle.job_meaning.specs.Walks.{source_walk}
 use Rattle.job_routes.specs.Legs.{leg_in, leg_walk, left_by_search, side_of}
 use Rattle.job_plan.proofs.LentLemmas.{walk_below}
-use Rattle.job_plan.proofs.given.Given.searched.Goals as goal
+use Rattle.job_plan.proofs.given.Given.left.Goals as goal
 
 pub returns-in-Optional-Some : goal.returns-in-Optional-Some
 returns-in-Optional-Some c =
