@@ -62,17 +62,29 @@ module _ (env : Numbers) where
       ≡ gives_on (search_at k legs) (leg_at k legs) env (scanned_from legs.search (take k legs.scans) env t)
   goes_on k legs t h = by k legs.search legs.scans h
     where
-      abbrev of : Option Side → List AbstractLeg → AbstractLegs
-      of o ls = record { search = o; scans = ls; last = legs.last }
-
       by : (k : ℕ) (o : Option Side) (ls : List AbstractLeg) → k < length ls
           → scanned_from o (take (suc k) ls) env t
-          ≡ gives_on (search_at k (of o ls)) (leg_among k ls legs.last) env (scanned_from o (take k ls) env t)
+          ≡ gives_on (search_at k (record { search = o; scans = ls; last = legs.last })) (leg_among k ls legs.last) env
+          (scanned_from o (take k ls) env t)
       by k o [] h = absurd (omega arith)
       by zero None (l ∷ ls) h = among_on zero (l ∷ ls) legs.last t h
       by (suc k) None (l ∷ ls) h = among_on (suc k) (l ∷ ls) legs.last t h
       by zero (Some d) (l ∷ ls) h = refl
       by (suc k) (Some d) (l ∷ ls) h = among_on k ls legs.last (searched d l env t) (omega arith)
+
+-- the first leg is given what its job goes over
+pub first_given : (chain : AbstractChain) → given_at chain 0 ≡ chain.source
+first_given chain = by chain.legs.search
+  where
+    by : (o : Option Side) → scanned_from o (take 0 chain.legs.scans) chain.numbers chain.source ≡ chain.source
+    by None = refl
+    by (Some d) = refl
+
+-- and so is a search
+pub search_given : (chain : AbstractChain) (leg : ℕ) (d : Side) → search_at leg chain.legs ≡ Some d
+    → given_at chain leg ≡ chain.source
+search_given chain zero d h = first_given chain
+search_given chain (suc leg) d h = absurd (let z : None ≡ Some d = h in cc)
 
 -- a job of the program
 pub plans_length : (js : List JobPlan) → length (plans_in js) ≡ length js
