@@ -1,6 +1,6 @@
 //! Whether a job takes arrays of earlier jobs.
 
-ghost use Rattle.std.specs.Prelude.{◌≡◌, false, is_some, true, List};
+ghost use Rattle.std.specs.Prelude.{◌≡◌, false, List};
 ghost use Rattle.job_language.specs.Jobs.{sources_of};
 ghost use Rattle.job_plan.specs.Owned.{takes_arrays};
 ghost use Rattle.job_meaning.specs.FileAnswers.{EarlierJob, all_put_in};
@@ -23,8 +23,7 @@ pub(crate) fn has_array(sources: &[PlainSource]) -> bool
 impl JobPlan<'_> {
     /// Whether a source is the array of an earlier job, `result(NAME)`.
     pub fn takes_arrays(&self) -> bool
-        ensures search { result ≡ true → is_some self.now.search ≡ false }
-        ensures none { result ≡ false → (named : List EarlierJob)
+        ensures { result ≡ false → (named : List EarlierJob)
             → all_put_in named (sources_of self.now.sources.items) ≡ sources_of self.now.sources.items }
     {
         has_array(&self.sources)
