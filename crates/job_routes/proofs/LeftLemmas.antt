@@ -1,12 +1,15 @@
 -- What a leg makes of the positions that a search before it leaves.
-use Rattle.std.proofs.Common.{◌≡◌, Bool, if◌then◌else◌, ℕ, zero, suc, ◌+◌, List, [], length, drop, refl, sym, ap, ◌∙◌}
+use Rattle.std.proofs.Common.{◌≡◌, Bool, true, if◌then◌else◌, ℕ, zero, suc, ◌+◌, List, [], length, drop, refl, sym, ap, ◌∙◌}
 use Rattle.lambda_values.specs.Earlier.{Numbers}
-use Rattle.lambda_values.specs.Term.{Truth, opposite}
+use Rattle.lambda_values.specs.Term.{Truth, opposite, row}
 use Rattle.lambda_values.specs.declared.item.Item.{Item}
+use Rattle.trace.specs.Cover.{placed}
 use Rattle.trace.specs.declared.item.End.{End}
-use Rattle.trace.specs.Stages.{filter, pipe, stages_of, through}
+use Rattle.trace.specs.declared.item.End.TheVariants as end
+use Rattle.trace.specs.Stages.{map, filter, pipe, stages_of, through}
 use Rattle.trace.specs.Trace.{Trace, trace, nothing}
 use Rattle.trace.proofs.JoinLemmas.{pipe_ended}
+use Rattle.batch_eval.specs.Faultless.{AreFaultless}
 use Rattle.slice_ops.specs.Slices.{dropped, skipped, taken}
 use Rattle.prefix_walks.specs.declared.window.Window.{Window}
 use Rattle.job_language.specs.Jobs.{AbstractPlainSource}
@@ -19,7 +22,7 @@ use Rattle.job_routes.specs.declared.route.Side.TheVariants as side
 use Rattle.job_routes.specs.Legs.{given_answer, left_by_search, leg_in, leg_outcome, number_after, searched, walk_through, windowed}
 use Rattle.job_routes.specs.Searches.{Finds, IsCopy, failing}
 use Rattle.job_routes.proofs.PlaceOfItem.{of_window}
-use Rattle.job_routes.proofs.SearchLemmas.{drop_left, finds_place, place_in, skip_left, take_left, without_item, without_stop}
+use Rattle.job_routes.proofs.SearchLemmas.{drop_left, finds_place, place_in, skip_left, take_calm, take_left, without_item, without_stop}
 
 -- what is left by a search whose stages are copies
 pub search_left : (d : Side) (w : Window) (s copy : NumberedStages) (does : Numbers → Trace → Trace) (search : Leg)
@@ -51,6 +54,20 @@ test_left d w s copy p q search copied same finds env t =
     ∙ (λ i. left_by_search d w.from
     (place_in (through (same_number s copy copied i) (filter (opposite (same i))) env (walk_through s env u))) u)
 
+-- where the stages of a search have no fault, its walk ends as its source does
+pub calm_ending : (s copy last : NumberedStages) (p q : Truth) → IsCopy s copy → q ≡ p
+    → AreFaultless true (stages_of last.list.items)
+    → ((env : Numbers) (t : Trace) → walk_through last env t
+    ≡ through (suc (number_after copy)) (map row) env (failing copy q env (walk_through copy env t)))
+    → (env : Numbers) (t : Trace)
+    → (through (suc (number_after s)) (map row) env (failing s p env (walk_through s env t))).ending ≡ t.ending
+calm_ending s copy last p q copied same calm walk env t =
+    ap (λ (u : Trace). u.ending) (sym (walk env t
+    ∙ (λ i. through (suc (same_number s copy copied i)) (map row) env
+    (through (same_number s copy copied i) (filter (opposite (same i))) env
+    (pipe (copied.first i) (copied.stages i) env t)))))
+    ∙ ap (λ (u : Trace). u.ending) ((calm env).0 last.first env refl t.items t.ending)
+
 module _ (s copy : NumberedStages) (copied : IsCopy s copy) (env : Numbers) (w : Window)
     (ss : List AbstractPlainSource) where
   abbrev goes : Trace → Trace
@@ -81,6 +98,18 @@ module _ (s copy : NumberedStages) (copied : IsCopy s copy) (env : Numbers) (w :
       ∙ ap (through m (filter p) env) (goes_ended e)
       ∙ sym (ap (taken p m env) (goes_ended e)))
       (λ us few. take_left s.first (stages_of s.list.items) env copied.places w.from us few m p)
+
+  pub calm_window : (p : Truth)
+      → ((t : Trace) → (through (suc m) (map row) env (failing s p env (goes t))).ending ≡ t.ending)
+      → goes (left_by_search side.Before w.from (place_in (failing s p env (goes u))) u) ≡ taken p m env (goes u)
+  calm_window p calm = of_window
+      (λ (t : Trace). goes (left_by_search side.Before w.from (place_in (failing s p env (goes t))) t)
+      ≡ taken p m env (goes t))
+      w.from w.to ss
+      (λ e. (λ i. goes (left_by_search side.Before w.from (place_in (failing s p env (goes_ended e i))) (trace [] e)))
+      ∙ ap goes (without_stop w.from e (trace [] e)) ∙ goes_ended e ∙ sym (ap (taken p m env) (goes_ended e)))
+      (λ us few. take_calm s.first (stages_of s.list.items) env copied.places w.from us few m p
+      (calm (trace (placed w.from us) end.Done)))
 
   pub drop_window : (p : Truth)
       → goes (left_by_search side.From w.from (place_in (failing s p env (goes u))) u) ≡ dropped p m env (goes u)

@@ -5,7 +5,7 @@ use Rattle.std.proofs.Common.{ap, ◌∙◌, arith}
 use Rattle.std.specs.Int.{w64}
 use Rattle.std.proofs.lemmas.Int.{int_wrap_fits}
 use Rattle.lambda_values.specs.Earlier.{Numbers}
-use Rattle.lambda_values.specs.Term.{Truth, opposite}
+use Rattle.lambda_values.specs.Term.{Truth, opposite, row}
 use Rattle.lambda_values.specs.Operators.{on}
 use Rattle.lambda_values.specs.Value.{truth_value}
 use Rattle.lambda_values.specs.Wrap.{wrap}
@@ -14,7 +14,7 @@ use Rattle.lambda_values.specs.declared.item.Item.{Item}
 use Rattle.trace.specs.Cover.{placed}
 use Rattle.trace.specs.declared.item.End.{End}
 use Rattle.trace.specs.declared.item.End.TheVariants as end
-use Rattle.trace.specs.Stages.{AbstractStage, filter, passed, pipe, through}
+use Rattle.trace.specs.Stages.{map, AbstractStage, filter, passed, pipe, through}
 use Rattle.trace.specs.Stops.{kept_before, kept_from, shift, stop_at, stop_or}
 use Rattle.trace.specs.Trace.{Trace, trace, append}
 use Rattle.trace.proofs.JoinLemmas.{pipe_ended}
@@ -218,3 +218,20 @@ module _ (n : ℕ) (gs : List AbstractStage) (env : Numbers) (keeps : keep_place
               ap (λ (t : Trace). through m (filter p) env
               (walks (left_by_search side.Before i (place_in t) (trace xs end.Done)))) h
               ∙ pass
+
+      -- and without the filter, where nothing has a fault
+      pub take_calm : (through (suc m) (map row) env (bad m p env w.items w.ending)).ending ≡ end.Done
+          → walks (left_by_search side.Before i (place_in (bad m p env w.items w.ending)) (trace xs end.Done))
+          ≡ taken p m env w
+      take_calm calm = by (stop_at (front_ends p m env) w.items) (fails m p env w.items w.ending)
+        where
+          by : (o : Option (ℕ × End)) → Fails m p env o w.items w.ending (bad m p env w.items w.ending)
+              → walks (left_by_search side.Before i (place_in (bad m p env w.items w.ending)) (trace xs end.Done))
+              ≡ kept_before o w
+          by None h = ap (λ (t : Trace). walks (left_by_search side.Before i (place_in t) (trace xs end.Done))) h
+              ∙ ap walks (without_stop i w.ending (trace xs end.Done))
+          by (Some (k, end.Done)) h =
+              ap (λ (a : Answer). walks (left_by_search side.Before i a (trace xs end.Done))) h.3
+              ∙ before_item k h.0 h.1 h.2
+          by (Some (k, end.Fault f)) h = absurd (let z : end.Done ≡ end.Fault f =
+              sym calm ∙ ap (λ (t : Trace). (through (suc m) (map row) env t).ending) h in cc)

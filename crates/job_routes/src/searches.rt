@@ -5,10 +5,10 @@
 //! `dropWhile` isn't true, or of the first one after a `skip`. The leg itself then goes over the positions before that
 //! place, or over those from it on.
 
-ghost use Rattle.std.specs.Prelude.{◌≡◌, ◌≢◌, ◌≤◌, ℕ, [], List, IfNone, IfOk, IfSome, OnOk, true};
+ghost use Rattle.std.specs.Prelude.{◌≡◌, ◌≢◌, ◌≤◌, ℕ, suc, [], List, IfNone, IfOk, IfSome, OnOk, true};
 ghost use Rattle.lambda_values.specs.Earlier.{Numbers};
-ghost use Rattle.lambda_values.specs.Term.{truth_of};
-ghost use Rattle.trace.specs.Stages.{stages_of};
+ghost use Rattle.lambda_values.specs.Term.{row, truth_of};
+ghost use Rattle.trace.specs.Stages.{map, through};
 ghost use Rattle.trace.specs.Trace.{Trace};
 ghost use Rattle.job_language.specs.Jobs.{AbstractPlainSource};
 ghost use Rattle.job_meaning.specs.Walks.{source_walk};
@@ -70,7 +70,10 @@ fn test_search(
     test: BoolExpr,
 ) -> Result<Leg, NoMemory>
     requires few { number_after stages ≤ 31 }
-    ensures { IfOk result (Finds window stages (failing stages (truth_of test))) }
+    ensures finds { IfOk result (Finds window stages (failing stages (truth_of test))) }
+    ensures walk { IfOk result (λ leg. (env : Numbers) (t : Trace) → walk_through leg.last.stages env t
+        ≡ through (suc (number_after stages)) (map row) env (failing stages (truth_of test) env
+        (walk_through stages env t))) }
 {
     let mut sought = stages;
     let opposite = BoolExpr::Not(Box::new(alloc, test)?);
@@ -128,7 +131,8 @@ fn go_on(leg: &mut Leg, stages: NumberedStages) -> Result<(), NoMemory>
     leg.last.stages.append(later)
 }
 
-/// Looks for the end of a `takeWhile`. Its test stays in the leg, as a filter: it is true before that place.
+/// Looks for the end of a `takeWhile`. If the test may have a fault, it stays in the leg as a filter: it is true before
+/// that place.
 fn before_test(
     alloc: Global,
     leg: &mut Leg,
@@ -142,6 +146,11 @@ fn before_test(
     let same = truth_copy(alloc, &test)?;
     let search = test_search(alloc, leg.window, copy, same)?;
     let mut through = stages;
+    if are_faultless(&search.last.stages.list) {
+        through.pass_over()?;
+        go_on(leg, through)?;
+        return Ok(search);
+    }
     through.push(Stage::Filter(test))?;
     go_on(leg, through)?;
     Ok(search)

@@ -18,6 +18,6 @@ returns c = λ env ss.
     ∙ ap (outcome_of (segment_in c.args.leg.now.last) env)
     (c.in_ok-pass_over.ensures.walk env left
     ∙ ap (walk_through s env)
-    (test_left side.From w s c.args.copy p p c.in_ok-search.search copied refl c.in_ok-search.ensures env
+    (test_left side.From w s c.args.copy p p c.in_ok-search.search copied refl c.in_ok-search.ensures.finds env
     (source_walk ss))
     ∙ drop_window s c.args.copy copied env w ss p)
