@@ -8,7 +8,7 @@ ghost use Rattle.job_routes.specs.Legs.{leg_in, leg_walk, left_after, left_by_se
 
 use job_language::PlainSource;
 use job_meaning::Answer;
-use job_routes::{Leg, SegmentEnd, Side};
+use job_routes::{Leg, PlaceSide, SegmentEnd};
 use prefix_walks::{GivenWalk, Window};
 use std::marker::Model;
 use trace::End;
@@ -32,13 +32,13 @@ impl<'a, 'c> Model for Given<'a, 'c> {
 }
 
 /// The positions of a window on one side of its position with this number.
-fn side_of(window: Window, side: Side, count: u64) -> Window
+fn side_of(window: Window, side: PlaceSide, count: u64) -> Window
     ensures { (t : Trace) → length t.items < 2 ^ 64
         → windowed result.from result.to t ≡ side_of side count (windowed window.from window.to t) }
 {
     match side {
-        Side::Before => window.within(0, Some(count)),
-        Side::From => window.within(count, None),
+        PlaceSide::Before => window.within(0, Some(count)),
+        PlaceSide::From => window.within(count, None),
     }
 }
 
@@ -58,7 +58,7 @@ impl<'a, 'c> Given<'a, 'c> {
     pub fn searched(
         sources: &'a [PlainSource<'c>],
         leg: &Leg,
-        side: Side,
+        side: PlaceSide,
         answer: Answer,
     ) -> Given<'a, 'c>
         ensures { result ≡ left_after side (leg_in leg.now) answer (source_walk (sources_of sources.now)) }
@@ -73,7 +73,7 @@ impl<'a, 'c> Given<'a, 'c> {
     fn left(
         sources: &'a [PlainSource<'c>],
         leg: &Leg,
-        side: Side,
+        side: PlaceSide,
         answer: Answer,
     ) -> Given<'a, 'c>
         ensures { result ≡ left_by_search side leg.now.window.from answer
@@ -103,12 +103,12 @@ impl<'a, 'c> Given<'a, 'c> {
     fn unfound(
         sources: &'a [PlainSource<'c>],
         leg: &Leg,
-        side: Side,
+        side: PlaceSide,
         answer: Answer,
     ) -> Given<'a, 'c>
         ensures { result ≡ unfound side answer (leg_walk (leg_in leg.now) (source_walk (sources_of sources.now))) }
     {
-        if matches!(side, Side::Before) {
+        if matches!(side, PlaceSide::Before) {
             return Given::positions(sources, leg.window);
         }
         match answer {

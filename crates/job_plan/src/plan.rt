@@ -14,7 +14,7 @@ use crate::named::has_array;
 use crate::names::named_in;
 use job_language::{Job, PlainSource};
 use job_meaning::Answer;
-use job_routes::{Fallback, Leg, Route, Side, fallback_of, route_of};
+use job_routes::{Fallback, Leg, PlaceSide, Route, fallback_of, route_of};
 use lambda_values::Env;
 use std::alloc::Global;
 use stream_tokens::Bytes;
@@ -45,7 +45,7 @@ pub struct JobPlan<'c> {
     first_values: Option<u64>,
     pub sources: Vec<PlainSource<'c>>,
     /// Which positions the next leg goes over, if the first one is a search.
-    pub search: Option<Side>,
+    pub search: Option<PlaceSide>,
     /// The legs that end in prefixes, and a search before them.
     pub scans: Vec<Leg>,
     pub last: Leg,
@@ -73,11 +73,12 @@ impl<'c> Plan<'c> {
     /// `limit` goes before maps, and so does `skip` if these can't have a fault. So they select positions of what their
     /// leg goes over, and a run cuts what they leave. A `reduce` that keeps the first value becomes `findFirst`, which
     /// ends there, if its leg has no other slices, and only maps and filters that can't have a fault. Before `limit(0)`
-    /// nothing is walked. Stages keep their numbers.
+    /// nothing is walked. Stages that may have a fault keep their numbers. If the first leg of a job has one other slice,
+    /// a search for the place where it cuts may come before it, so that this number of workers share it.
     ///
     /// The jobs are moved; after a refused allocation they are dropped. Takes time and memory for each stage, and each
     /// name in a job is compared with the names of the jobs before.
-    pub fn of(alloc: Global, jobs: Vec<Job<'c>>) -> Result<Plan<'c>, NoMemory>
+    pub fn of(alloc: Global, jobs: Vec<Job<'c>>, workers: u64) -> Result<Plan<'c>, NoMemory>
         ensures routes { IfOk result (λ plan.
             AreRoutes [] (plans_in plan.jobs.items) (jobs_of jobs.entry.items)) }
         ensures meaning { IfOk result (λ plan.
@@ -86,7 +87,7 @@ impl<'c> Plan<'c> {
     {
         let mut plans = Vec::new(alloc);
         for job in jobs {
-            let plan = JobPlan::of(alloc, job, &plans)?;
+            let plan = JobPlan::of(alloc, job, &plans, workers)?;
             plans.push(plan)?;
         }
         let lent = lent_arrays(alloc, &plans)?;
@@ -98,7 +99,12 @@ impl<'c> JobPlan<'c> {
     ghost use Rattle.job_plan.specs.Plans.{IsRoute, plan_in, plan_names};
 
     /// The route of a job after these.
-    fn of(alloc: Global, job: Job<'c>, before: &[JobPlan<'c>]) -> Result<JobPlan<'c>, NoMemory>
+    fn of(
+        alloc: Global,
+        job: Job<'c>,
+        before: &[JobPlan<'c>],
+        workers: u64,
+    ) -> Result<JobPlan<'c>, NoMemory>
         ensures ok { IfOk result (λ plan. IsRoute (plan_names before.now) (plan_in plan) (job_of job.entry)) }
     {
         let named = named_in(alloc, &job, before)?;
@@ -115,7 +121,7 @@ impl<'c> JobPlan<'c> {
             search,
             scans,
             last,
-        } = route_of(alloc, stages, terminal, !has_array(&sources))?;
+        } = route_of(alloc, stages, terminal, !has_array(&sources), workers > 1)?;
         let first = scans.first().unwrap_or(&last);
         let likely_size = likely_size(&sources, first.window, before);
         let stages = &first.last.stages.list;

@@ -17,15 +17,15 @@ use Rattle.job_meaning.specs.Walks.{source_walk}
 use Rattle.job_routes.specs.declared.leg.Leg.{Leg}
 use Rattle.job_routes.specs.declared.numbered_stages.NumberedStages.{NumberedStages}
 use Rattle.job_routes.specs.declared.outcome.Outcome.{Outcome}
-use Rattle.job_routes.specs.declared.route.Side.{Side}
-use Rattle.job_routes.specs.declared.route.Side.TheVariants as side
+use Rattle.job_routes.specs.declared.route.PlaceSide.{PlaceSide}
+use Rattle.job_routes.specs.declared.route.PlaceSide.TheVariants as side
 use Rattle.job_routes.specs.Legs.{given_answer, left_by_search, leg_in, leg_outcome, number_after, searched, walk_through, windowed}
 use Rattle.job_routes.specs.Searches.{Finds, IsCopy, failing}
 use Rattle.job_routes.proofs.PlaceOfItem.{of_window}
 use Rattle.job_routes.proofs.SearchLemmas.{drop_left, finds_place, place_in, skip_left, take_calm, take_left, without_item, without_stop}
 
 -- what is left by a search whose stages are copies
-pub search_left : (d : Side) (w : Window) (s copy : NumberedStages) (does : Numbers → Trace → Trace) (search : Leg)
+pub search_left : (d : PlaceSide) (w : Window) (s copy : NumberedStages) (does : Numbers → Trace → Trace) (search : Leg)
     → IsCopy s copy → Finds w copy does search → (env : Numbers) (t : Trace)
     → searched d (leg_in search) env t
     ≡ left_by_search d w.from (place_in (does env (walk_through s env (windowed w.from w.to t)))) (windowed w.from w.to t)
@@ -44,7 +44,7 @@ search_left d w s copy does search copied finds env t =
 same_number : (s copy : NumberedStages) → IsCopy s copy → number_after copy ≡ number_after s
 same_number s copy copied = λ i. copied.first i + length (copied.stages i)
 
-pub test_left : (d : Side) (w : Window) (s copy : NumberedStages) (p q : Truth) (search : Leg) → IsCopy s copy → q ≡ p
+pub test_left : (d : PlaceSide) (w : Window) (s copy : NumberedStages) (p q : Truth) (search : Leg) → IsCopy s copy → q ≡ p
     → Finds w copy (failing copy q) search → (env : Numbers) (t : Trace) → searched d (leg_in search) env t
     ≡ left_by_search d w.from (place_in (failing s p env (walk_through s env (windowed w.from w.to t))))
     (windowed w.from w.to t)

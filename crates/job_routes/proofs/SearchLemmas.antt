@@ -25,7 +25,7 @@ use Rattle.prefix_walks.proofs.Elements.{drop_none, take_none}
 use Rattle.job_meaning.specs.declared.answer.Answer.{Answer}
 use Rattle.job_meaning.specs.declared.answer.Answer.TheVariants as answer
 use Rattle.job_routes.specs.declared.outcome.Outcome.TheVariants as outcome
-use Rattle.job_routes.specs.declared.route.Side.TheVariants as side
+use Rattle.job_routes.specs.declared.route.PlaceSide.TheVariants as side
 use Rattle.job_routes.specs.Legs.{left_by_search, windowed}
 use Rattle.job_routes.specs.Searches.{keep_places, place_found}
 use Rattle.job_routes.proofs.PlaceOfItem.{came_from, walk}

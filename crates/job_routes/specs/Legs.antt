@@ -35,8 +35,8 @@ use Rattle.job_routes.specs.declared.ends.SegmentEnd.{SegmentEnd}
 use Rattle.job_routes.specs.declared.ends.SegmentEnd.TheVariants as ends
 use Rattle.job_routes.specs.declared.numbered_stages.NumberedStages.{NumberedStages}
 use Rattle.job_routes.specs.declared.route.Route.{Route}
-use Rattle.job_routes.specs.declared.route.Side.{Side}
-use Rattle.job_routes.specs.declared.route.Side.TheVariants as side
+use Rattle.job_routes.specs.declared.route.PlaceSide.{PlaceSide}
+use Rattle.job_routes.specs.declared.route.PlaceSide.TheVariants as side
 use Rattle.job_routes.specs.declared.segment.Segment.{Segment}
 use Rattle.job_routes.specs.declared.leg.Leg.{Leg}
 use Rattle.job_routes.specs.declared.leg.Link.{Link}
@@ -78,7 +78,7 @@ pub record AbstractLeg : Type 0 where
 -- gives the answer. The first one may be a search: the next one then goes over the positions before the place that it
 -- finds, or over those from it on
 pub record AbstractLegs : Type 0 where
-  pub search : Option Side
+  pub search : Option PlaceSide
   pub scans : List AbstractLeg
   pub last : AbstractLeg
 
@@ -194,12 +194,12 @@ scanned [] env t = t
 scanned (l ∷ ls) env t = scanned ls env (given_walk (leg_outcome l env t))
 
 -- the items of a walk before this position, or those from it on
-abbrev pub side_of : Side → ℕ → Trace → Trace
+abbrev pub side_of : PlaceSide → ℕ → Trace → Trace
 side_of side.Before k t = windowed 0 (Some k) t
 side_of side.From k t = windowed k None t
 
 -- what a search without a place leaves: all, or nothing but the fault that it met
-abbrev pub unfound : Side → Answer → Trace → Trace
+abbrev pub unfound : PlaceSide → Answer → Trace → Trace
 unfound side.Before a t = t
 unfound side.From (answer.Fault f) t = trace [] (end.Fault f)
 unfound side.From (answer.Optional v) t = nothing
@@ -209,7 +209,7 @@ unfound side.From (answer.Array vs) t = nothing
 unfound side.From (answer.Unusable k) t = nothing
 
 -- what is left of a walk that begins at this place, after the answer of a search over it
-abbrev pub left_by_search : Side → ℕ → Answer → Trace → Trace
+abbrev pub left_by_search : PlaceSide → ℕ → Answer → Trace → Trace
 left_by_search s from (answer.Optional (Some z)) t = side_of s (unsigned_abs z - from) t
 left_by_search s from (answer.Optional None) t = unfound s (answer.Optional None) t
 left_by_search s from (answer.Fault f) t = unfound s (answer.Fault f) t
@@ -219,15 +219,15 @@ left_by_search s from (answer.Array vs) t = unfound s (answer.Array vs) t
 left_by_search s from (answer.Unusable k) t = unfound s (answer.Unusable k) t
 
 -- what is left of a walk after a leg, as a search, gave this answer; one that ends in an exact sum leaves nothing
-abbrev pub left_after : Side → AbstractLeg → Answer → Trace → Trace
+abbrev pub left_after : PlaceSide → AbstractLeg → Answer → Trace → Trace
 left_after s l a t = if sums_many l.last.ending true then nothing else left_by_search s l.from a (leg_walk l t)
 
 -- what a search leaves of a walk
-abbrev pub searched : Side → AbstractLeg → Numbers → Trace → Trace
+abbrev pub searched : PlaceSide → AbstractLeg → Numbers → Trace → Trace
 searched s l env t = left_after s l (given_answer (leg_outcome l env t)) t
 
 -- what legs make of a walk, the first of which may be a search
-abbrev pub scanned_from : Option Side → List AbstractLeg → Numbers → Trace → Trace
+abbrev pub scanned_from : Option PlaceSide → List AbstractLeg → Numbers → Trace → Trace
 scanned_from None ls env t = scanned ls env t
 scanned_from (Some s) [] env t = t
 scanned_from (Some s) (l ∷ ls) env t = scanned ls env (searched s l env t)

@@ -11,7 +11,7 @@ use Rattle.job_meaning.specs.Walks.{source_walk}
 use Rattle.job_routes.specs.declared.leg.Leg.{Leg}
 use Rattle.job_routes.specs.declared.leg.Link.{Link}
 use Rattle.job_routes.specs.declared.numbered_stages.NumberedStages.{NumberedStages}
-use Rattle.job_routes.specs.declared.route.Side.{Side}
+use Rattle.job_routes.specs.declared.route.PlaceSide.{PlaceSide}
 use Rattle.job_routes.specs.declared.outcome.Outcome.{Outcome}
 use Rattle.prefix_walks.specs.declared.window.Window.{Window}
 use Rattle.job_routes.specs.Legs.{ended, finding, leg_in, leg_outcome, number_after, outcome_of, searched, segment_in, sums_many}
@@ -62,7 +62,7 @@ pub record IsReady (l : Leg) (s copy : NumberedStages) : Type 0 where
 
 -- after a search a new leg gives what this slice and the segment of the old one make of a walk over sources, after
 -- these stages
-abbrev pub IsSearched : Side → AbstractSlice → NumberedStages → Leg → Leg → Leg → Type 0
+abbrev pub IsSearched : PlaceSide → AbstractSlice → NumberedStages → Leg → Leg → Leg → Type 0
 IsSearched side d s old new search = (env : Numbers) (ss : List AbstractPlainSource)
     → leg_outcome (leg_in new) env (searched side (leg_in search) env (source_walk ss))
     ≡ outcome_of (segment_in old.last) env (sliced d (number_after s) env

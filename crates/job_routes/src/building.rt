@@ -93,7 +93,7 @@ impl Begun {
         }
     }
 
-    /// Goes over these positions. The slice that selects them is passed over.
+    /// Goes over these positions. The slice that selects them does no more.
     fn select(&mut self, window: Window) -> Result<(), NoMemory>
         requires few { number_after self.old.stages ≤ 32 }
         ensures kept { OnOk result ((self.new.scans ≡ self.old.scans) × (self.new.links ≡ self.old.links)) }

@@ -15,7 +15,7 @@ use trace::NoMemory;
 
 /// The positions on one side of a place.
 #[derive(Clone, Copy)]
-pub enum Side {
+pub enum PlaceSide {
     /// Those before it.
     Before,
     /// Those from it on.
@@ -26,15 +26,15 @@ pub enum Side {
 #[derive(Drop)]
 pub struct Route {
     /// Which positions the next leg goes over, if the first one is a search.
-    pub search: Option<Side>,
+    pub search: Option<PlaceSide>,
     /// The legs that give walks, and a search before them.
     pub scans: Vec<Leg>,
     /// The leg that gives the answer.
     pub last: Leg,
 }
 
-/// The legs with a search before the first one, if that has a slice that one can take the place of.
-fn with_search(alloc: Global, scans: Vec<Leg>, last: Leg) -> Result<Route, NoMemory>
+/// The legs, with a search before the first one, if one gains there. With `twice` positions may be walked twice.
+fn with_search(alloc: Global, scans: Vec<Leg>, last: Leg, twice: bool) -> Result<Route, NoMemory>
     ensures { IfOk result (λ route. (env : Numbers) (ss : List AbstractPlainSource)
         → legs_answer (legs_of_route route) env (source_walk ss)
         ≡ legs_answer (record { search = None; scans = legs_in scans.items; last = leg_in last }) env
@@ -43,8 +43,8 @@ fn with_search(alloc: Global, scans: Vec<Leg>, last: Leg) -> Result<Route, NoMem
     let mut scans = scans;
     let mut last = last;
     let found = match scans.first_mut() {
-        Some(first) => search_for(alloc, first)?,
-        None => search_for(alloc, &mut last)?,
+        Some(first) => search_for(alloc, first, twice)?,
+        None => search_for(alloc, &mut last, twice)?,
     };
     match found {
         Some((search, side)) => {
@@ -63,12 +63,14 @@ fn with_search(alloc: Global, scans: Vec<Leg>, last: Leg) -> Result<Route, NoMem
     }
 }
 
-/// The legs of a job of these stages and this terminal. A search is over the job's `own` sources.
+/// The legs of a job of these stages and this terminal. A search is over the job's `own` sources. With `twice` one that
+/// looks for the end of a `takeWhile` walks positions that the leg after it walks again.
 pub fn route_of(
     alloc: Global,
     stages: Vec<JobStage>,
     terminal: Terminal,
     own: bool,
+    twice: bool,
 ) -> Result<Route, NoMemory>
     requires few { length stages.items ≤ 32 }
     ensures answer { IfOk result (λ route. (env : Numbers) (ss : List AbstractPlainSource)
@@ -79,7 +81,7 @@ pub fn route_of(
 {
     let (scans, last) = legs_of(alloc, stages, terminal)?;
     if own {
-        return with_search(alloc, scans, last);
+        return with_search(alloc, scans, last, twice);
     }
     Ok(Route {
         search: None,

@@ -15,14 +15,14 @@ ghost use Rattle.job_meaning.specs.Walks.{source_walk};
 ghost use Rattle.job_routes.specs.Legs.{leg_in, leg_outcome, number_after, outcome_of, searched, segment_in};
 ghost use Rattle.job_routes.specs.Legs.{walk_through};
 ghost use Rattle.job_routes.specs.Searches.{Finds, HasOneSlice, IsReady, IsSearched, failing};
-ghost use Rattle.job_routes.specs.declared.route.Side.TheVariants as side;
+ghost use Rattle.job_routes.specs.declared.route.PlaceSide.TheVariants as side;
 ghost use Rattle.slice_ops.specs.Slices.{drop_while, limit, skip, skipped, slice_of, take_while};
 
 use crate::copies::truth_copy;
 use crate::ends::SegmentEnd;
 use crate::leg::{Leg, Link};
 use crate::numbered_stages::NumberedStages;
-use crate::route::Side;
+use crate::route::PlaceSide;
 use crate::segment::Segment;
 use batch_eval::are_faultless;
 use find_ops::FindTerminal;
@@ -33,20 +33,22 @@ use std::alloc::Global;
 use std::mem;
 use trace::{NoMemory, Stage};
 
-/// Whether a search gains: no `limit` has to be found, and what ends the walk behind a `takeWhile` doesn't end it
-/// earlier.
-fn gains(slice: &Slice, later: &Segment) -> bool
+/// Whether a search gains. A `takeWhile` asks for the positions before its end once more, and nothing behind it may end
+/// the walk earlier.
+fn gains(slice: &Slice, later: &Segment, twice: bool) -> bool
     ensures { result ≡ true → (k : ℕ) → slice_of slice.now ≢ limit k }
 {
     match slice {
         Slice::Limit(_) => false,
         Slice::Skip(_) | Slice::DropWhile(_) => true,
-        Slice::TakeWhile(_) => later.end.takes_all() && are_faultless(&later.stages.list),
+        Slice::TakeWhile(_) => {
+            twice && later.end.takes_all() && are_faultless(&later.stages.list)
+        }
     }
 }
 
 /// Whether the walk of a leg goes through one slice, for which a search gains.
-fn has_one_slice(leg: &Leg) -> bool
+fn has_one_slice(leg: &Leg, twice: bool) -> bool
     ensures { result ≡ true → HasOneSlice leg.now }
 {
     let Some((link, later)) = leg.links.split_first() else {
@@ -59,7 +61,7 @@ fn has_one_slice(leg: &Leg) -> bool
     if number >= 32 || leg.last.stages.first != number + 1 {
         return false;
     }
-    gains(&link.slice, &leg.last)
+    gains(&link.slice, &leg.last, twice)
 }
 
 /// The leg that looks for the first item at which a test isn't true.
@@ -198,28 +200,38 @@ fn search_of(
     leg: &mut Leg,
     link: Link,
     copy: NumberedStages,
-) -> Result<(Leg, Side), NoMemory>
+) -> Result<(Leg, PlaceSide), NoMemory>
     requires ready { IsReady leg.old link.stages copy }
     requires other { (k : ℕ) → slice_of link.slice ≢ limit k }
     ensures { IfOk result (λ found. IsSearched found.1 (slice_of link.slice) link.stages leg.old leg.new found.0) }
 {
     let Link { stages, slice } = link;
     match slice {
-        Slice::TakeWhile(test) => Ok((before_test(alloc, leg, stages, copy, test)?, Side::Before)),
-        Slice::DropWhile(test) => Ok((from_test(alloc, leg, stages, copy, test)?, Side::From)),
-        Slice::Skip(count) => Ok((after_skip(alloc, leg, stages, copy, count)?, Side::From)),
+        Slice::TakeWhile(test) => Ok((
+            before_test(alloc, leg, stages, copy, test)?,
+            PlaceSide::Before,
+        )),
+        Slice::DropWhile(test) => Ok((from_test(alloc, leg, stages, copy, test)?, PlaceSide::From)),
+        Slice::Skip(count) => Ok((
+            after_skip(alloc, leg, stages, copy, count)?,
+            PlaceSide::From,
+        )),
         Slice::Limit(_) => unreachable!(),
     }
 }
 
 /// The search that takes the place of the slice of this leg, if it gains by one.
-pub(crate) fn search_for(alloc: Global, leg: &mut Leg) -> Result<Option<(Leg, Side)>, NoMemory>
+pub(crate) fn search_for(
+    alloc: Global,
+    leg: &mut Leg,
+    twice: bool,
+) -> Result<Option<(Leg, PlaceSide)>, NoMemory>
     ensures some { IfOk result (λ found. IfSome found (λ f. (env : Numbers) (ss : List AbstractPlainSource)
         → leg_outcome (leg_in leg.new) env (searched f.1 (leg_in f.0) env (source_walk ss))
         ≡ leg_outcome (leg_in leg.old) env (source_walk ss))) }
     ensures none { IfOk result (λ found. IfNone found (leg.new ≡ leg.old)) }
 {
-    if !has_one_slice(leg) {
+    if !has_one_slice(leg, twice) {
         return Ok(None);
     }
     let Some(copy) = leg.links[0].stages.copy(alloc)? else {

@@ -16,7 +16,7 @@ use Rattle.job_routes.specs.Legs.{is_one_piece, AbstractEnd, AbstractLeg, Abstra
 use Rattle.job_routes.specs.Legs.{given_walk, last_stage, leg_at, legs_answer, linked, outcome_of, walk_of}
 use Rattle.job_routes.specs.Legs.{AbstractLegs, leg_among, leg_outcome, leg_walk, left_after, left_by_search, scanned, scanned_from}
 use Rattle.job_routes.specs.Legs.{searched, sums_many}
-use Rattle.job_routes.specs.declared.route.Side.{Side}
+use Rattle.job_routes.specs.declared.route.PlaceSide.{PlaceSide}
 use Rattle.job_meaning.specs.declared.answer.Answer.{Answer}
 use Rattle.job_plan.proofs.EnoughLemmas.{whole_enough}
 use Rattle.job_plan.proofs.PartLemmas.{other_ends, settled_decides}
@@ -37,7 +37,7 @@ module _ (env : Numbers) where
   all_passed [] t = refl
   all_passed (l ∷ ls) t = all_passed ls (given_walk (leg_outcome l env t))
 
-  last_passed : (o : Option Side) (ls : List AbstractLeg) (t : Trace)
+  last_passed : (o : Option PlaceSide) (ls : List AbstractLeg) (t : Trace)
       → scanned_from o (take (length ls) ls) env t ≡ scanned_from o ls env t
   last_passed None ls t = all_passed ls t
   last_passed (Some d) [] t = refl
@@ -62,7 +62,7 @@ module _ (env : Numbers) where
       ≡ gives_on (search_at k legs) (leg_at k legs) env (scanned_from legs.search (take k legs.scans) env t)
   goes_on k legs t h = by k legs.search legs.scans h
     where
-      by : (k : ℕ) (o : Option Side) (ls : List AbstractLeg) → k < length ls
+      by : (k : ℕ) (o : Option PlaceSide) (ls : List AbstractLeg) → k < length ls
           → scanned_from o (take (suc k) ls) env t
           ≡ gives_on (search_at k (record { search = o; scans = ls; last = legs.last })) (leg_among k ls legs.last) env
           (scanned_from o (take k ls) env t)
@@ -76,12 +76,12 @@ module _ (env : Numbers) where
 pub first_given : (chain : AbstractChain) → given_at chain 0 ≡ chain.source
 first_given chain = by chain.legs.search
   where
-    by : (o : Option Side) → scanned_from o (take 0 chain.legs.scans) chain.numbers chain.source ≡ chain.source
+    by : (o : Option PlaceSide) → scanned_from o (take 0 chain.legs.scans) chain.numbers chain.source ≡ chain.source
     by None = refl
     by (Some d) = refl
 
 -- and so is a search
-pub search_given : (chain : AbstractChain) (leg : ℕ) (d : Side) → search_at leg chain.legs ≡ Some d
+pub search_given : (chain : AbstractChain) (leg : ℕ) (d : PlaceSide) → search_at leg chain.legs ≡ Some d
     → given_at chain leg ≡ chain.source
 search_given chain zero d h = first_given chain
 search_given chain (suc leg) d h = absurd (let z : None ≡ Some d = h in cc)
@@ -195,10 +195,10 @@ module _ (chain : AbstractChain) (leg : ℕ) (part : Part) where
       → PartStands chain leg 0 (size_at chain leg) part → given_walk o ≡ given_at chain (suc leg)
   goes_over o ends before none stands = ap given_walk (outcome_all o ends stands)
       ∙ sym (goes_on chain.numbers leg chain.legs chain.source before
-      ∙ ap (λ (d : Option Side). gives_on d (leg_at leg chain.legs) chain.numbers (given_at chain leg)) none)
+      ∙ ap (λ (d : Option PlaceSide). gives_on d (leg_at leg chain.legs) chain.numbers (given_at chain leg)) none)
 
   -- or what it left of its source, as a search
-  pub goes_over_left : (d : Side) (o : Outcome) → ((s : AbstractSegment) (t : Trace) → StandsFor s chain.numbers part t
+  pub goes_over_left : (d : PlaceSide) (o : Outcome) → ((s : AbstractSegment) (t : Trace) → StandsFor s chain.numbers part t
       → o ≡ outcome_of s chain.numbers t) → leg < last_leg chain.legs → search_at leg chain.legs ≡ Some d
       → PartStands chain leg 0 (size_at chain leg) part
       → left_after d (leg_at leg chain.legs) (given_answer o) (given_at chain leg) ≡ given_at chain (suc leg)
@@ -206,15 +206,15 @@ module _ (chain : AbstractChain) (leg : ℕ) (part : Part) where
       ap (λ (p : Outcome). left_after d (leg_at leg chain.legs) (given_answer p) (given_at chain leg))
       (outcome_all o ends stands)
       ∙ sym (goes_on chain.numbers leg chain.legs chain.source before
-      ∙ ap (λ (e : Option Side). gives_on e (leg_at leg chain.legs) chain.numbers (given_at chain leg)) search)
+      ∙ ap (λ (e : Option PlaceSide). gives_on e (leg_at leg chain.legs) chain.numbers (given_at chain leg)) search)
 
   -- a part that leaves it open what its leg gives is of a leg that gives no walk
-  none_given : (d : Option Side) (l : AbstractLeg) (t u : Trace)
+  none_given : (d : Option PlaceSide) (l : AbstractLeg) (t u : Trace)
       → EndsFor l.last.ending (last_stage l.last) chain.numbers part t → may_search part ≡ true
       → nothing ≡ gives_on d l chain.numbers u
   none_given d l t u h may = by d l.last.ending refl h
     where
-      by : (d : Option Side) (e : AbstractEnd) → l.last.ending ≡ e
+      by : (d : Option PlaceSide) (e : AbstractEnd) → l.last.ending ≡ e
           → EndsFor e (last_stage l.last) chain.numbers part t → nothing ≡ gives_on d l chain.numbers u
       by None exactly same h = sym (ap (λ (e : AbstractEnd). given_walk (ended e (last_stage l.last) chain.numbers
           (walk_of l.last chain.numbers (linked l.links chain.numbers (leg_walk l u))))) same)

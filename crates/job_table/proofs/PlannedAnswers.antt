@@ -12,7 +12,7 @@ use Rattle.job_routes.specs.Legs.{AbstractLegs, legs_answer}
 use Rattle.job_runner.specs.Runs.{AreAnswers}
 use Rattle.job_table.specs.PlanLegs.{answer_of, answers_before, chain_at, named_at, plan_at, AbstractChain, PartStands}
 use Rattle.job_table.specs.PlanLegs.{given_at, last_leg, search_at, size_at}
-use Rattle.job_routes.specs.declared.route.Side.{Side}
+use Rattle.job_routes.specs.declared.route.PlaceSide.{PlaceSide}
 use Rattle.job_table.proofs.PlanParts.{first_given}
 use Rattle.lambda_values.specs.Earlier.{Numbers}
 use Rattle.job_language.specs.declared.job.PlainSource.{PlainSource}
@@ -140,7 +140,7 @@ module _ (plans : List AbstractPlan) (job : ℕ) (p : AbstractPlan) (same : p �
   legs_there = sym (ap (λ (q : AbstractPlan). q.legs) same)
 
   -- a search is over the job's own sources
-  pub search_own : (own : List AbstractPlainSource) (o : Option Side) (leg : ℕ) → p.sources ≡ own
+  pub search_own : (own : List AbstractPlainSource) (o : Option PlaceSide) (leg : ℕ) → p.sources ≡ own
       → p.legs.search ≡ o → (is_some o && takes_arrays own) ≡ false
       → is_some (search_at leg (chain_at plans job).legs) ≡ true → (chain_at plans job).source ≡ source_walk own
   search_own own o zero is search none h =

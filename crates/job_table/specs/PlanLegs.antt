@@ -20,7 +20,7 @@ use Rattle.job_meaning.specs.Walks.{source_walk}
 use Rattle.job_routes.specs.declared.outcome.Outcome.{Outcome}
 use Rattle.job_routes.specs.Legs.{AbstractLeg, AbstractLegs, collecting, is_one_piece, leg_at, leg_walk, linked}
 use Rattle.job_routes.specs.Legs.{given_walk, leg_outcome, outcome_of, scanned_from, searched}
-use Rattle.job_routes.specs.declared.route.Side.{Side}
+use Rattle.job_routes.specs.declared.route.PlaceSide.{PlaceSide}
 use Rattle.job_plan.specs.declared.part.Part.{Part}
 use Rattle.job_plan.specs.declared.plan.JobPlan.{JobPlan}
 use Rattle.job_plan.specs.contracts.plan.JobPlan as plans
@@ -80,12 +80,12 @@ abbrev pub last_leg : AbstractLegs → ℕ
 last_leg legs = length legs.scans
 
 -- which positions the next leg goes over, if the leg with this number is a search
-abbrev pub search_at : ℕ → AbstractLegs → Option Side
+abbrev pub search_at : ℕ → AbstractLegs → Option PlaceSide
 search_at zero legs = legs.search
 search_at (suc k) legs = None
 
 -- what a leg gives to the next one, of what it is given; it may be a search
-abbrev pub gives_on : Option Side → AbstractLeg → Numbers → Trace → Trace
+abbrev pub gives_on : Option PlaceSide → AbstractLeg → Numbers → Trace → Trace
 gives_on None l env t = given_walk (leg_outcome l env t)
 gives_on (Some d) l env t = searched d l env t
 

@@ -15,7 +15,7 @@ use batch_eval::Registers;
 use early_stop::Stop;
 use job_meaning::Answer;
 use job_plan::{Given, JobPlan, Part, Source, Walked, leaf_until, streamed};
-use job_routes::{Leg, Side};
+use job_routes::{Leg, PlaceSide};
 use job_runner::{NoMemory, Piece};
 use lambda_values::Env;
 use prefix_walks::{GivenWalk, Window};
@@ -90,7 +90,7 @@ pub(crate) fn walked_piece<'a, W: Stop>(
 }
 
 /// Which positions the next leg goes over, if this leg of a job is a search.
-fn search_at(plan: &JobPlan, leg: usize) -> Option<Side>
+fn search_at(plan: &JobPlan, leg: usize) -> Option<PlaceSide>
     ensures { result ≡ search_at leg (plan_in plan.now).legs }
 {
     if leg == 0 { plan.search } else { None }

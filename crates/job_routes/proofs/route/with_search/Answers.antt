@@ -1,6 +1,6 @@
 use Rattle.std.proofs.Common.{◌≡◌, ◌<◌, ◌∷◌, ◌++◌, take, drop, length, sym, subst, ap, ◌∙◌, rules}
 use Rattle.job_routes.specs.declared.leg.Leg.{Leg}
-use Rattle.job_routes.specs.declared.route.Side.{Side}
+use Rattle.job_routes.specs.declared.route.PlaceSide.{PlaceSide}
 use Rattle.job_routes.proofs.FoundLegs.{Stands, before_first, before_last, stands_there}
 use Rattle.job_routes.proofs.route.with_search.Goals as goal
 use Rattle.job_routes.proofs.route.with_search.Goals.{in-Some+in_ok-found-in-Some, in-None+in_ok-found-in-None}
@@ -10,7 +10,7 @@ returns-in_ok-insert-in-Some-found c = λ env ss.
     let legs = c.args.scans.items in
     let last = c.args.last in
     let made = c.insert.new.self.items in
-    let f : Leg × Side = (c.in-Some-found.search, c.in-Some-found.side) in
+    let f : Leg × PlaceSide = (c.in-Some-found.search, c.in-Some-found.side) in
     let put = c.in_ok-insert-in-Some-found.ensures.items in
     elim c.match-first_mut.branch [
       | in-Some+in_ok-found-in-Some w ↦

@@ -2,7 +2,7 @@ use Rattle.std.proofs.Common.{ap, ◌∙◌}
 use Rattle.slice_ops.specs.Slices.{skipped}
 use Rattle.trace.specs.Trace.{Trace}
 use Rattle.job_meaning.specs.Walks.{source_walk}
-use Rattle.job_routes.specs.declared.route.Side.TheVariants as side
+use Rattle.job_routes.specs.declared.route.PlaceSide.TheVariants as side
 use Rattle.job_routes.specs.Legs.{leg_in, outcome_of, searched, segment_in, walk_through}
 use Rattle.job_routes.proofs.LeftLemmas.{search_left, skip_window}
 use Rattle.job_routes.proofs.searches.after_skip.Goals as goal

@@ -3,7 +3,7 @@ use Rattle.lambda_values.specs.Term.{truth_of}
 use Rattle.trace.specs.Stages.{filter, through}
 use Rattle.trace.specs.Trace.{Trace}
 use Rattle.job_meaning.specs.Walks.{source_walk}
-use Rattle.job_routes.specs.declared.route.Side.TheVariants as side
+use Rattle.job_routes.specs.declared.route.PlaceSide.TheVariants as side
 use Rattle.job_routes.specs.Legs.{leg_in, number_after, outcome_of, searched, segment_in, walk_through}
 use Rattle.job_routes.proofs.LeftLemmas.{calm_ending, calm_window, take_window, test_left}
 use Rattle.job_routes.proofs.searches.before_test.Goals as goal
