@@ -30,8 +30,8 @@ pub struct Named {
 }
 
 /// The route of a job. Its first leg goes over positions of the job's sources, and so does the next one after a search;
-/// each further one goes over positions of what the prefix at the end of the leg before it gives, and the last one gives
-/// the answer.
+/// each further one goes over positions of what the prefix at the end of the leg before it gives, and the last one
+/// gives the answer.
 #[derive(Drop)]
 pub struct JobPlan<'c> {
     pub name: Bytes,
@@ -73,8 +73,8 @@ impl<'c> Plan<'c> {
     /// `limit` goes before maps, and so does `skip` if these can't have a fault. So they select positions of what their
     /// leg goes over, and a run cuts what they leave. A `reduce` that keeps the first value becomes `findFirst`, which
     /// ends there, if its leg has no other slices, and only maps and filters that can't have a fault. Before `limit(0)`
-    /// nothing is walked. Stages that may have a fault keep their numbers. If the first leg of a job has one other slice,
-    /// a search for the place where it cuts may come before it, so that this number of workers share it.
+    /// nothing is walked. Stages that may have a fault keep their numbers. If the first leg of a job has one other
+    /// slice, a search for the place where it cuts may come before it, so that this number of workers share it.
     ///
     /// The jobs are moved; after a refused allocation they are dropped. Takes time and memory for each stage, and each
     /// name in a job is compared with the names of the jobs before.

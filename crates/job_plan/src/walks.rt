@@ -91,7 +91,8 @@ fn walk_legs<'p>(
     registers: &mut Registers,
 ) -> Result<Answer, NoMemory>
     ensures { IfOk result (λ answer. answer
-        ≡ legs_answer (record { search = None; scans = legs_in scans.now; last = leg_in last.now }) env.now (walk_in source.entry)) }
+        ≡ legs_answer (record { search = None; scans = legs_in scans.now; last = leg_in last.now }) env.now
+        (walk_in source.entry)) }
 {
     let Some((leg, later)) = scans.split_first() else {
         let outcome = walk_leg(alloc, last, source, tree, env, registers)?;

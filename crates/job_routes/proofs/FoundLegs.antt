@@ -18,7 +18,8 @@ Stands old new f = (env : Numbers) (ss : List AbstractPlainSource)
     → leg_outcome (leg_in new) env (searched f.1 (leg_in f.0) env (source_walk ss))
     ≡ leg_outcome (leg_in old) env (source_walk ss)
 
-pub stands_there : (made found : Option (Leg × PlaceSide)) (old new : Leg) (f : Leg × PlaceSide) → made ≡ found → made ≡ Some f
+pub stands_there : (made found : Option (Leg × PlaceSide)) (old new : Leg) (f : Leg × PlaceSide) → made ≡ found
+    → made ≡ Some f
     → IfSome found (Stands old new) → Stands old new f
 stands_there made found old new f is there h =
     subst (λ (o : Option (Leg × PlaceSide)). IfSome o (Stands old new)) (sym is ∙ there) h

@@ -1,5 +1,6 @@
 -- What a leg makes of the positions that a search before it leaves.
-use Rattle.std.proofs.Common.{◌≡◌, Bool, true, if◌then◌else◌, ℕ, zero, suc, ◌+◌, List, [], length, drop, refl, sym, ap, ◌∙◌}
+use Rattle.std.proofs.Common.{◌≡◌, Bool, true, if◌then◌else◌, ℕ, zero, suc, ◌+◌, List, [], length, drop, refl, sym, ap}
+use Rattle.std.proofs.Common.{◌∙◌}
 use Rattle.lambda_values.specs.Earlier.{Numbers}
 use Rattle.lambda_values.specs.Term.{Truth, opposite, row}
 use Rattle.lambda_values.specs.declared.item.Item.{Item}
@@ -19,16 +20,19 @@ use Rattle.job_routes.specs.declared.numbered_stages.NumberedStages.{NumberedSta
 use Rattle.job_routes.specs.declared.outcome.Outcome.{Outcome}
 use Rattle.job_routes.specs.declared.route.PlaceSide.{PlaceSide}
 use Rattle.job_routes.specs.declared.route.PlaceSide.TheVariants as side
-use Rattle.job_routes.specs.Legs.{given_answer, left_by_search, leg_in, leg_outcome, number_after, searched, walk_through, windowed}
+use Rattle.job_routes.specs.Legs.{given_answer, left_by_search, leg_in, leg_outcome, number_after, searched}
+use Rattle.job_routes.specs.Legs.{walk_through, windowed}
 use Rattle.job_routes.specs.Searches.{Finds, IsCopy, failing}
 use Rattle.job_routes.proofs.PlaceOfItem.{of_window}
-use Rattle.job_routes.proofs.SearchLemmas.{drop_left, finds_place, place_in, skip_left, take_calm, take_left, without_item, without_stop}
+use Rattle.job_routes.proofs.SearchLemmas.{drop_left, finds_place, place_in, skip_left, take_calm, take_left}
+use Rattle.job_routes.proofs.SearchLemmas.{without_item, without_stop}
 
 -- what is left by a search whose stages are copies
 pub search_left : (d : PlaceSide) (w : Window) (s copy : NumberedStages) (does : Numbers → Trace → Trace) (search : Leg)
     → IsCopy s copy → Finds w copy does search → (env : Numbers) (t : Trace)
     → searched d (leg_in search) env t
-    ≡ left_by_search d w.from (place_in (does env (walk_through s env (windowed w.from w.to t)))) (windowed w.from w.to t)
+    ≡ left_by_search d w.from (place_in (does env (walk_through s env (windowed w.from w.to t))))
+    (windowed w.from w.to t)
 search_left d w s copy does search copied finds env t =
     let u : Trace = windowed w.from w.to t in
     ap (λ (b : Bool). if b then nothing
@@ -44,7 +48,8 @@ search_left d w s copy does search copied finds env t =
 same_number : (s copy : NumberedStages) → IsCopy s copy → number_after copy ≡ number_after s
 same_number s copy copied = λ i. copied.first i + length (copied.stages i)
 
-pub test_left : (d : PlaceSide) (w : Window) (s copy : NumberedStages) (p q : Truth) (search : Leg) → IsCopy s copy → q ≡ p
+pub test_left : (d : PlaceSide) (w : Window) (s copy : NumberedStages) (p q : Truth) (search : Leg) → IsCopy s copy
+    → q ≡ p
     → Finds w copy (failing copy q) search → (env : Numbers) (t : Trace) → searched d (leg_in search) env t
     ≡ left_by_search d w.from (place_in (failing s p env (walk_through s env (windowed w.from w.to t))))
     (windowed w.from w.to t)

@@ -154,7 +154,8 @@ drop_placed (suc k) i (v ∷ vs) = let e : suc i + k ≡ i + suc k = omega arith
 take_placed : (k i : ℕ) (vs : List ℤ) → take k (placed i vs) ≡ placed i (take k vs)
 take_placed zero i vs = take_none (placed i vs) ∙ ap (placed i) (sym (take_none vs))
 take_placed (suc k) i [] = refl
-take_placed (suc k) i (v ∷ vs) = ap (λ (xs : List Item). record { origin = i; value = v } ∷ xs) (take_placed k (suc i) vs)
+take_placed (suc k) i (v ∷ vs) = ap (λ (xs : List Item). record { origin = i; value = v } ∷ xs)
+    (take_placed k (suc i) vs)
 
 dropped_placed : (k : ℕ) (vs : List ℤ) → drop k (placed 0 vs) ≡ placed k (drop k vs)
 dropped_placed k vs = let e : 0 + k ≡ k = omega arith in drop_placed k 0 vs ∙ ap (λ j. placed j (drop k vs)) e
@@ -184,7 +185,8 @@ of_window P from to ss ended some_placed = by (nat_lt (2 ^ 62) (length vs)) refl
 
     by : (b : Bool) → nat_lt (2 ^ 62) (length vs) ≡ b
         → P (windowed from to (if b then too_long else trace (placed 0 vs) end.Done))
-    by true h = subst (λ (xs : List Item). P (trace xs too_long.ending)) (sym (elements_none from to)) (ended too_long.ending)
+    by true h = subst (λ (xs : List Item). P (trace xs too_long.ending)) (sym (elements_none from to))
+        (ended too_long.ending)
     by false h = subst (λ (xs : List Item). P (trace xs end.Done)) (sym (elements_placed from to vs))
         (some_placed (elements from to vs)
         (few_elements from to vs (let l = ltb-false (2 ^ 62) (length vs) h in omega (arith, l))))

@@ -144,7 +144,8 @@ module _ (n : ℕ) (gs : List AbstractStage) (env : Numbers) (keeps : keep_place
     abbrev w : Trace
     w = walk n gs env keeps xs
 
-    there : (k : ℕ) (x : Item) (rest : List Item) → drop k w.items ≡ x ∷ rest → unsigned_abs (wrap (pos x.origin)) ≡ x.origin
+    there : (k : ℕ) (x : Item) (rest : List Item) → drop k w.items ≡ x ∷ rest
+        → unsigned_abs (wrap (pos x.origin)) ≡ x.origin
     there k x rest h =
         let c = came_from n gs env keeps i us k x rest h in
         let a = c.low in let b = c.high in let l = length-placed i us in
@@ -169,7 +170,8 @@ module _ (n : ℕ) (gs : List AbstractStage) (env : Numbers) (keeps : keep_place
         ∙ (λ j. walks (trace (take (e j) (drop_none xs j)) end.Done))
         ∙ (came_from n gs env keeps i us k x rest h).before
 
-    pub skip_left : (k : ℕ) → walks (left_by_search side.From i (place_in (skipped k w)) (trace xs end.Done)) ≡ skipped k w
+    pub skip_left : (k : ℕ) → walks (left_by_search side.From i (place_in (skipped k w)) (trace xs end.Done))
+        ≡ skipped k w
     skip_left k = by (drop k w.items) refl
       where
         by : (ys : List Item) → drop k w.items ≡ ys

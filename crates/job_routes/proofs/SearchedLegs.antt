@@ -1,6 +1,7 @@
 -- Legs that searches come before.
 use Rattle.std.proofs.Common.{◌≡◌, ◌<◌, ℕ, suc, ◌+◌, ◌^◌, Bool, true, false, if◌then◌else◌, List, [], ◌∷◌}
-use Rattle.std.proofs.Common.{◌++◌, length, length-append, Result, Ok, Err, IfOk, OnOk, append_assoc, refl, sym, ap, ◌∙◌}
+use Rattle.std.proofs.Common.{◌++◌, length, length-append, Result, Ok, Err, IfOk, OnOk, append_assoc, refl, sym, ap}
+use Rattle.std.proofs.Common.{◌∙◌}
 use Rattle.std.proofs.Common.{arith}
 use Rattle.lambda_values.specs.Earlier.{Numbers}
 use Rattle.lambda_values.specs.Term.{row}

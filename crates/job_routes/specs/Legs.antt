@@ -1,5 +1,6 @@
 -- Design: the legs of a job.
-use Rattle.std.specs.Prelude.{ℕ, zero, suc, ℤ, pos, unsigned_abs, Bool, true, false, if◌then◌else◌, ◌||◌, ◌+◌, ◌-◌, List, [], ◌∷◌, length, map as each_of}
+use Rattle.std.specs.Prelude.{ℕ, zero, suc, ℤ, pos, unsigned_abs, Bool, true, false, if◌then◌else◌, ◌||◌, ◌+◌, ◌-◌}
+use Rattle.std.specs.Prelude.{List, [], ◌∷◌, length, map as each_of}
 use Rattle.std.specs.Prelude.{Option, Some, None, is_some}
 use Rattle.lambda_values.specs.Earlier.{Numbers}
 use Rattle.lambda_values.specs.Term.{Truth}

@@ -14,7 +14,8 @@ use Rattle.job_routes.specs.declared.numbered_stages.NumberedStages.{NumberedSta
 use Rattle.job_routes.specs.declared.route.PlaceSide.{PlaceSide}
 use Rattle.job_routes.specs.declared.outcome.Outcome.{Outcome}
 use Rattle.prefix_walks.specs.declared.window.Window.{Window}
-use Rattle.job_routes.specs.Legs.{ended, finding, leg_in, leg_outcome, number_after, outcome_of, searched, segment_in, sums_many}
+use Rattle.job_routes.specs.Legs.{ended, finding, leg_in, leg_outcome, number_after, outcome_of, searched, segment_in}
+use Rattle.job_routes.specs.Legs.{sums_many}
 use Rattle.job_routes.specs.Legs.{walk_through, windowed}
 
 -- whether stages are maps and filters: an item that they give has the place of the one that it came from

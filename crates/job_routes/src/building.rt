@@ -257,7 +257,8 @@ pub(crate) fn legs_of(
 ) -> Result<(Vec<Leg>, Leg), NoMemory>
     requires few { length stages.items ≤ 32 }
     ensures { IfOk result (λ made. (env : Numbers) (ss : List AbstractPlainSource)
-        → legs_answer (record { search = None; scans = legs_in made.0.items; last = leg_in made.1 }) env (source_walk ss)
+        → legs_answer (record { search = None; scans = legs_in made.0.items; last = leg_in made.1 }) env
+        (source_walk ss)
         ≡ answer_of (suc (length stages.items)) env (terminal_of terminal)
         (after_stages 1 (job_stages_of stages.items) env (source_walk ss))) }
 {

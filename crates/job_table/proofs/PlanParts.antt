@@ -14,7 +14,8 @@ use Rattle.job_plan.specs.Parts.{EndsFor, StandsEnough, StandsFor, is_running, i
 use Rattle.job_plan.specs.Plans.{plan_in, plans_in}
 use Rattle.job_routes.specs.Legs.{is_one_piece, AbstractEnd, AbstractLeg, AbstractSegment, ended, exactly, given_answer}
 use Rattle.job_routes.specs.Legs.{given_walk, last_stage, leg_at, legs_answer, linked, outcome_of, walk_of}
-use Rattle.job_routes.specs.Legs.{AbstractLegs, leg_among, leg_outcome, leg_walk, left_after, left_by_search, scanned, scanned_from}
+use Rattle.job_routes.specs.Legs.{AbstractLegs, leg_among, leg_outcome, leg_walk, left_after, left_by_search, scanned}
+use Rattle.job_routes.specs.Legs.{scanned_from}
 use Rattle.job_routes.specs.Legs.{searched, sums_many}
 use Rattle.job_routes.specs.declared.route.PlaceSide.{PlaceSide}
 use Rattle.job_meaning.specs.declared.answer.Answer.{Answer}
@@ -198,7 +199,8 @@ module _ (chain : AbstractChain) (leg : ℕ) (part : Part) where
       ∙ ap (λ (d : Option PlaceSide). gives_on d (leg_at leg chain.legs) chain.numbers (given_at chain leg)) none)
 
   -- or what it left of its source, as a search
-  pub goes_over_left : (d : PlaceSide) (o : Outcome) → ((s : AbstractSegment) (t : Trace) → StandsFor s chain.numbers part t
+  pub goes_over_left : (d : PlaceSide) (o : Outcome)
+      → ((s : AbstractSegment) (t : Trace) → StandsFor s chain.numbers part t
       → o ≡ outcome_of s chain.numbers t) → leg < last_leg chain.legs → search_at leg chain.legs ≡ Some d
       → PartStands chain leg 0 (size_at chain leg) part
       → left_after d (leg_at leg chain.legs) (given_answer o) (given_at chain leg) ≡ given_at chain (suc leg)

@@ -1,5 +1,6 @@
 -- The answers of the jobs of a plan, one by one and all together.
-use Rattle.std.proofs.Common.{◌≡◌, ℕ, zero, suc, pos, Bool, true, false, is_some, ◌+◌, ◌<◌, List, [], ◌∷◌, ◌++◌, length, take, Option, Some, None}
+use Rattle.std.proofs.Common.{◌≡◌, ℕ, zero, suc, pos, Bool, true, false, is_some, ◌+◌, ◌<◌, List, [], ◌∷◌, ◌++◌, length}
+use Rattle.std.proofs.Common.{take, Option, Some, None}
 use Rattle.std.proofs.Common.{Result, Ok, Err, IfOk, slice_get, ap, sym, ◌∙◌, refl, append_assoc, arith, get_or, drop}
 use Rattle.std.specs.Prelude.{◌&&◌, slice_index_or}
 use Rattle.std.proofs.lemmas.List.{append-nil, drop_more}
@@ -132,7 +133,8 @@ module _ (plans : List AbstractPlan) (job : ℕ) (p : AbstractPlan) (same : p �
   pub own_walk : (own : List AbstractPlainSource) → p.sources ≡ own → takes_arrays own ≡ false
       → (chain_at plans job).source ≡ source_walk own
   own_walk own is none =
-      sym (ap (λ (q : AbstractPlan). source_walk (all_put_in (jobs_at (answers_before plans job) q.named) q.sources)) same)
+      sym (ap (λ (q : AbstractPlan). source_walk (all_put_in (jobs_at (answers_before plans job) q.named) q.sources))
+      same)
       ∙ ap (λ ss. source_walk (all_put_in (jobs_at (answers_before plans job) p.named) ss)) is
       ∙ ap source_walk (none_put (jobs_at (answers_before plans job) p.named) own none)
 

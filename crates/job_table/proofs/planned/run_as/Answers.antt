@@ -30,8 +30,10 @@ run_all-requires-send-S-Part g c = λ κs within. param_send 3 _ (arg_send _ no 
 
 pub run_all-requires-send-S-Source : goal.run_all-requires-send-S-Source
 run_all-requires-send-S-Source g c = λ κs within. param_send 4 _
-    (arg_send _ no (given_walks.the_row (record { mir = static; lft = _ }) (record { mir = static; lft = _ })) (source_send _ _))
+    (arg_send _ no (given_walks.the_row (record { mir = static; lft = _ }) (record { mir = static; lft = _ }))
+    (source_send _ _))
 
 pub run_all-requires-sync-S-Source : goal.run_all-requires-sync-S-Source
 run_all-requires-sync-S-Source g c = λ κs within. param_sync 4 _
-    (arg_sync _ no (given_walks.the_row (record { mir = static; lft = _ }) (record { mir = static; lft = _ })) (source_sync _ _))
+    (arg_sync _ no (given_walks.the_row (record { mir = static; lft = _ }) (record { mir = static; lft = _ }))
+    (source_sync _ _))

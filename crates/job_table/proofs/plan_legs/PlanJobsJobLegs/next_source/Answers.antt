@@ -15,7 +15,8 @@ returns-clause-source g c =
     let plan = c.job-2.result.now in
     c.in_ok-source.ensures (chain_at plans job) (legs_there plans job (plan_in plan) c.job-2.ensures)
     (sym c.requires.given.1) c.requires.leg
-    (search_own plans job (plan_in plan) c.job-2.ensures (sources_of plan.sources.items) plan.search c.args.leg refl refl
+    (search_own plans job (plan_in plan) c.job-2.ensures (sources_of plan.sources.items) plan.search c.args.leg refl
+    refl
     plan.own) c.requires.part
 
 pub returns-clause-size : goal.returns-clause-size
@@ -31,6 +32,7 @@ returns-clause-size g c =
     c.of_given.ensures
     ∙ c.in_ok-source.ensures chain (legs_there plans job (plan_in plan) c.job-2.ensures) (sym c.requires.given.1)
     c.requires.leg
-    (search_own plans job (plan_in plan) c.job-2.ensures (sources_of plan.sources.items) plan.search c.args.leg refl refl
+    (search_own plans job (plan_in plan) c.job-2.ensures (sources_of plan.sources.items) plan.search c.args.leg refl
+    refl
     plan.own) c.requires.part in
     c.positions-size.ensures ∙ (λ i. positions_of (leg i) (given i))
