@@ -66,7 +66,7 @@ fn written<H: Threads + Wait + Sync, G: RunGate + Sync>(
         ≡ report_in (form_of settings.now) (names_of (jobs_of jobs.entry.items))
         (meaning_of (jobs_of jobs.entry.items))) }
 {
-    let plan = Plan::of(alloc, jobs)?;
+    let plan = Plan::of(alloc, jobs, settings.workers())?;
     announce(&plan, gate);
     let answers = match run_jobs(rt, alloc, &plan, settings, gate) {
         Ok(answers) => answers,

@@ -25,8 +25,8 @@ use Rattle.job_language.specs.declared.job.PlainSource.{PlainSource}
 use Rattle.job_meaning.specs.Walks.{values_of, plain_values, source_walk}
 use Rattle.batch_eval.proofs.FaultlessLemmas.{left_none}
 use Rattle.prefix_walks.proofs.Elements.{elements_none, source_parts}
-use Rattle.std.proofs.lemmas.Bool.{ltb-true, lt-ltb}
-use Rattle.trace.proofs.Sources.{length-counted}
+use Rattle.std.proofs.lemmas.Bool.{ltb-false, ltb-true, lt-ltb}
+use Rattle.trace.proofs.Sources.{length-counted, length-placed}
 
 -- items after others
 pub grown : (w : Trace) (ys zs : List Item)
@@ -97,6 +97,15 @@ short_walk ss h = by (nat_lt (2 ^ 62) (length (values_of ss))) refl
         → trace (placed 0 (values_of ss)) end.Done ≡ (if b then too_long else trace (placed 0 (values_of ss)) end.Done)
     by true k = let l = ltb-true 4611686018427387904 (length (values_of ss)) k in absurd (omega (arith, l, h))
     by false k = refl
+
+pub walk_below : (ss : List AbstractPlainSource) → length (source_walk ss).items < 18446744073709551616
+walk_below ss = by (nat_lt (2 ^ 62) (length (values_of ss))) refl
+  where
+    by : (b : Bool) → nat_lt (2 ^ 62) (length (values_of ss)) ≡ b
+        → length (if b then too_long else trace (placed 0 (values_of ss)) end.Done).items < 18446744073709551616
+    by true k = omega arith
+    by false k = let l = ltb-false 4611686018427387904 (length (values_of ss)) k in
+        let n = length-placed 0 (values_of ss) in omega (arith, l, n)
 
 -- how many values a range has, as the program counts them
 pub counted_size : (a : ℤ) (n : ℕ) → n < 18446744073709551616 → n ≡ min (length (counted a n)) 18446744073709551615

@@ -89,7 +89,7 @@ plan_in j = record {
   name = j.name;
   named = j.named.items;
   sources = sources_of j.sources.items;
-  legs = record { scans = legs_in j.scans.items; last = leg_in j.last };
+  legs = record { search = j.search; scans = legs_in j.scans.items; last = leg_in j.last };
   fallback = option_map fallback_in j.fallback;
   table = table_in j.table;
 }

@@ -21,6 +21,7 @@ mod find_end;
 mod fold_part;
 mod found;
 mod fronts;
+mod given;
 mod laws;
 mod leaves;
 mod lent_arrays;
@@ -46,6 +47,7 @@ mod walks;
 
 pub use array_part::ArrayPart;
 pub use fold_part::FoldPart;
+pub use given::Given;
 pub use laws::routes_answer_as_their_jobs;
 pub use leaves::{leaf_until, unwalked};
 pub use part::Part;

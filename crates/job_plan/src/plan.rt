@@ -1,19 +1,20 @@
 //! The routes of jobs: what a run walks.
 
-ghost use Rattle.std.specs.Prelude.{◌≡◌, [], IfOk, length};
-ghost use Rattle.job_language.specs.Jobs.{job_of, jobs_of, names_of};
+ghost use Rattle.std.specs.Prelude.{◌≡◌, ◌&&◌, [], false, IfOk, is_some, length};
+ghost use Rattle.job_language.specs.Jobs.{job_of, jobs_of, names_of, sources_of};
 ghost use Rattle.job_meaning.specs.FileAnswers.{meaning_of};
 ghost use Rattle.job_meaning.specs.Walks.{instead_of_fault};
-ghost use Rattle.job_plan.specs.Plans.{AreRoutes, IsRoute, plan_in, plan_names, planned_meaning, plans_in};
+ghost use Rattle.job_plan.specs.Owned.{takes_arrays};
 ghost use Rattle.job_routes.specs.Legs.{leg_in, leg_at};
 
 use crate::lent_arrays::lent_arrays;
 use crate::likely::likely_size;
 use crate::likely_values::{values_of_any, values_of_some};
+use crate::named::has_array;
 use crate::names::named_in;
 use job_language::{Job, PlainSource};
 use job_meaning::Answer;
-use job_routes::{Fallback, Leg, fallback_of, legs_of};
+use job_routes::{Fallback, Leg, PlaceSide, Route, fallback_of, route_of};
 use lambda_values::Env;
 use std::alloc::Global;
 use stream_tokens::Bytes;
@@ -28,8 +29,9 @@ pub struct Named {
     pub job: usize,
 }
 
-/// The route of a job. Its first leg goes over positions of the job's sources, each further one over positions of what
-/// the prefix at the end of the leg before it gives, and the last one gives the answer.
+/// The route of a job. Its first leg goes over positions of the job's sources, and so does the next one after a search;
+/// each further one goes over positions of what the prefix at the end of the leg before it gives, and the last one
+/// gives the answer.
 #[derive(Drop)]
 pub struct JobPlan<'c> {
     pub name: Bytes,
@@ -42,13 +44,16 @@ pub struct JobPlan<'c> {
     /// How many values an item of its first leg becomes, if that is known before a run. No answer depends on it.
     first_values: Option<u64>,
     pub sources: Vec<PlainSource<'c>>,
-    /// The legs that end in prefixes.
+    /// Which positions the next leg goes over, if the first one is a search.
+    pub search: Option<PlaceSide>,
+    /// The legs that end in prefixes, and a search before them.
     pub scans: Vec<Leg>,
     pub last: Leg,
     /// What the job gives after a fault, if anything.
     pub fallback: Option<Fallback>,
     /// The columns whose rows the items are, if lambdas may have cells of them.
     pub table: Option<&'c Columns>,
+    ghost own: { is_some search && takes_arrays (sources_of sources.items) ≡ false },
 }
 
 /// The routes of the jobs of a file, in file order.
@@ -61,16 +66,19 @@ pub struct Plan<'c> {
 }
 
 impl<'c> Plan<'c> {
+    ghost use Rattle.job_plan.specs.Plans.{AreRoutes, plan_names, planned_meaning, plans_in};
+
     /// The routes of jobs, with the earlier jobs that they name. A name that no earlier job has is left out.
     ///
     /// `limit` goes before maps, and so does `skip` if these can't have a fault. So they select positions of what their
     /// leg goes over, and a run cuts what they leave. A `reduce` that keeps the first value becomes `findFirst`, which
     /// ends there, if its leg has no other slices, and only maps and filters that can't have a fault. Before `limit(0)`
-    /// nothing is walked. Stages keep their numbers.
+    /// nothing is walked. Stages that may have a fault keep their numbers. If the first leg of a job has one other
+    /// slice, a search for the place where it cuts may come before it, so that this number of workers share it.
     ///
     /// The jobs are moved; after a refused allocation they are dropped. Takes time and memory for each stage, and each
     /// name in a job is compared with the names of the jobs before.
-    pub fn of(alloc: Global, jobs: Vec<Job<'c>>) -> Result<Plan<'c>, NoMemory>
+    pub fn of(alloc: Global, jobs: Vec<Job<'c>>, workers: u64) -> Result<Plan<'c>, NoMemory>
         ensures routes { IfOk result (λ plan.
             AreRoutes [] (plans_in plan.jobs.items) (jobs_of jobs.entry.items)) }
         ensures meaning { IfOk result (λ plan.
@@ -79,7 +87,7 @@ impl<'c> Plan<'c> {
     {
         let mut plans = Vec::new(alloc);
         for job in jobs {
-            let plan = JobPlan::of(alloc, job, &plans)?;
+            let plan = JobPlan::of(alloc, job, &plans, workers)?;
             plans.push(plan)?;
         }
         let lent = lent_arrays(alloc, &plans)?;
@@ -88,8 +96,15 @@ impl<'c> Plan<'c> {
 }
 
 impl<'c> JobPlan<'c> {
+    ghost use Rattle.job_plan.specs.Plans.{IsRoute, plan_in, plan_names};
+
     /// The route of a job after these.
-    fn of(alloc: Global, job: Job<'c>, before: &[JobPlan<'c>]) -> Result<JobPlan<'c>, NoMemory>
+    fn of(
+        alloc: Global,
+        job: Job<'c>,
+        before: &[JobPlan<'c>],
+        workers: u64,
+    ) -> Result<JobPlan<'c>, NoMemory>
         ensures ok { IfOk result (λ plan. IsRoute (plan_names before.now) (plan_in plan) (job_of job.entry)) }
     {
         let named = named_in(alloc, &job, before)?;
@@ -102,7 +117,11 @@ impl<'c> JobPlan<'c> {
             table,
         } = job;
         let fallback = fallback_of(&terminal, on_fault);
-        let (scans, last) = legs_of(alloc, stages, terminal)?;
+        let Route {
+            search,
+            scans,
+            last,
+        } = route_of(alloc, stages, terminal, !has_array(&sources), workers > 1)?;
         let first = scans.first().unwrap_or(&last);
         let likely_size = likely_size(&sources, first.window, before);
         let stages = &first.last.stages.list;
@@ -118,6 +137,7 @@ impl<'c> JobPlan<'c> {
             likely_size,
             first_values,
             sources,
+            search,
             scans,
             last,
             fallback,

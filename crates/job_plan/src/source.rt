@@ -12,6 +12,7 @@ ghost use Rattle.job_plan.specs.Bases.{base_walk};
 ghost use Rattle.prefix_walks.specs.Pieces.{after, elements, piece_of};
 ghost use Rattle.job_meaning.specs.Walks.{plain_values, source_walk, values_of};
 
+use crate::given::Given;
 use crate::sources::{PlainSources, items_of, plain_size};
 use batch_eval::{BatchSink, Pipeline, Registers, feed_batches};
 use job_language::PlainSource;
@@ -74,7 +75,7 @@ pub struct Walked<'g, 'a, 'c, 'e> {
 
 impl<'g, 'a, 'c> Source<'g, 'a, 'c> {
     ghost use Rattle.std.specs.Prelude.{◌-◌, min};
-    ghost use Rattle.job_routes.specs.Legs.{leg_in, leg_walk};
+    ghost use Rattle.job_routes.specs.Legs.{leg_in, leg_walk, windowed};
     ghost use Rattle.job_plan.specs.Parts.{walk_in};
 
     /// All positions of sources. A part of their walk may borrow values. It takes no memory.
@@ -98,10 +99,13 @@ impl<'g, 'a, 'c> Source<'g, 'a, 'c> {
     }
 
     /// All positions of what a leg gave.
-    pub fn of_given(given: &'g GivenWalk<'a>) -> Source<'g, 'a, 'c>
+    pub fn of_given(given: &'g Given<'a, 'c>) -> Source<'g, 'a, 'c>
         ensures { walk_in result ≡ given.now }
     {
-        Source::all(Base::Given(given))
+        match given.window {
+            Some(window) => Source::of_sources(given.sources).within(window),
+            None => Source::all(Base::Given(&given.walk)),
+        }
     }
 
     /// All positions of a walk.
@@ -119,7 +123,14 @@ impl<'g, 'a, 'c> Source<'g, 'a, 'c> {
     pub fn of_leg(self, leg: &Leg) -> Source<'g, 'a, 'c>
         ensures { walk_in result ≡ leg_walk (leg_in leg.now) (walk_in self.entry) }
     {
-        let Window { from, to } = leg.window;
+        self.within(leg.window)
+    }
+
+    /// These positions of the source.
+    fn within(self, window: Window) -> Source<'g, 'a, 'c>
+        ensures { walk_in result ≡ windowed window.from window.to (walk_in self.entry) }
+    {
+        let Window { from, to } = window;
         Source {
             base: self.base,
             window: self.window.within(from, to),

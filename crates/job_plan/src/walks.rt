@@ -1,12 +1,15 @@
 //! Jobs on one thread, over pieces that a tree cuts.
 
-ghost use Rattle.std.specs.Prelude.{◌≡◌, ◌≤◌, ◌<◌, length, pos, IfOk, IfSome, slice_get, OnSome, Some};
+ghost use Rattle.std.specs.Prelude.{◌≡◌, ◌≤◌, ◌<◌, length, pos, None, IfOk, IfSome, slice_get, OnSome, Some};
 ghost use Rattle.trace.specs.Trace.{Trace};
 ghost use Rattle.job_plan.specs.Parts.{StandsFor, walk_in};
 ghost use Rattle.job_routes.specs.Legs.{leg_in, legs_in, segment_in, leg_outcome, legs_answer};
+ghost use Rattle.job_language.specs.Jobs.{sources_of};
+ghost use Rattle.job_meaning.specs.Walks.{source_walk};
 ghost use Rattle.job_plan.specs.Plans.{plan_in, planned_answer};
 ghost use Rattle.prefix_walks.specs.Pieces.{piece_of};
 
+use crate::given::Given;
 use crate::leaves::leaf_until;
 use crate::part::Part;
 use crate::plan::JobPlan;
@@ -45,16 +48,29 @@ pub fn walk_tree(
     ensures { IfOk result (λ answer. answer ≡ planned_answer env.now (plan_in job.now)) }
 {
     let mut registers = Registers::new(alloc);
-    let given = walk_legs(
-        alloc,
-        &job.scans,
-        &job.last,
-        Source::of_sources(&job.sources),
-        tree,
-        env,
-        &mut registers,
-    )?;
+    let given = walk_route(alloc, job, tree, env, &mut registers)?;
     Ok(job.without_fault(given))
+}
+
+/// The answer of the legs of a job, of which the first may be a search.
+fn walk_route(
+    alloc: Global,
+    job: &JobPlan,
+    tree: &SplitTree,
+    env: &Env,
+    registers: &mut Registers,
+) -> Result<Answer, NoMemory>
+    ensures { IfOk result (λ answer. answer
+        ≡ legs_answer (plan_in job.now).legs env.now (source_walk (sources_of job.now.sources.items))) }
+{
+    let source = Source::of_sources(&job.sources);
+    let (Some(side), Some((leg, later))) = (job.search, job.scans.split_first()) else {
+        return walk_legs(alloc, &job.scans, &job.last, source, tree, env, registers);
+    };
+    let answer = walk_leg(alloc, leg, source, tree, env, registers)?.answer();
+    let given = Given::searched(&job.sources, leg, side, answer);
+    let left = Source::of_given(&given);
+    walk_legs(alloc, later, &job.last, left, tree, env, registers)
 }
 
 /// The answer of a job, each leg in one piece. For other programs, as `walk_tree`.
@@ -75,13 +91,14 @@ fn walk_legs<'p>(
     registers: &mut Registers,
 ) -> Result<Answer, NoMemory>
     ensures { IfOk result (λ answer. answer
-        ≡ legs_answer (record { scans = legs_in scans.now; last = leg_in last.now }) env.now (walk_in source.entry)) }
+        ≡ legs_answer (record { search = None; scans = legs_in scans.now; last = leg_in last.now }) env.now
+        (walk_in source.entry)) }
 {
     let Some((leg, later)) = scans.split_first() else {
         let outcome = walk_leg(alloc, last, source, tree, env, registers)?;
         return Ok(outcome.answer());
     };
-    let given = walk_leg(alloc, leg, source, tree, env, registers)?.walk();
+    let given = Given::walk(walk_leg(alloc, leg, source, tree, env, registers)?.walk());
     walk_legs(
         alloc,
         later,

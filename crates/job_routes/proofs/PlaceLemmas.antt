@@ -1,9 +1,8 @@
 -- Walks without the places of their items.
-use Rattle.std.proofs.Common.{◌≡◌, ℕ, suc, ◌-◌, ℤ, pos, Bool, true, false, List, [], ◌∷◌, ◌++◌, take, drop}
-use Rattle.std.proofs.Common.{map as each_of, Option, Some, None, Result, Ok, Err, refl, sym, ap, ◌∙◌}
+use Rattle.std.proofs.Common.{◌≡◌, ℕ, suc, ◌-◌, ℤ, pos, Bool, true, false, List, [], ◌∷◌, take, drop}
+use Rattle.std.proofs.Common.{Option, Some, None, Result, Ok, Err, refl, sym, ap, ◌∙◌}
 use Rattle.lambda_values.specs.Earlier.{Numbers}
-use Rattle.lambda_values.specs.Streams.{Inner, inner_value}
-use Rattle.lambda_values.specs.Term.{Long, Truth}
+use Rattle.lambda_values.specs.Streams.{inner_value}
 use Rattle.lambda_values.specs.Value.{long_value, truth_value}
 use Rattle.lambda_values.specs.declared.fault.FaultKind.{FaultKind}
 use Rattle.lambda_values.specs.declared.item.Item.{Item}
@@ -12,9 +11,9 @@ use Rattle.trace.specs.declared.item.End.{End}
 use Rattle.trace.specs.declared.item.End.TheVariants as end
 use Rattle.trace.specs.Stages.{AbstractStage, map, filter, flat_map, at_place, flattened, image, of_item, passed, pipe}
 use Rattle.trace.specs.Stages.{stages_of, through}
-use Rattle.trace.specs.Trace.{Trace, trace, append, each, nothing}
+use Rattle.trace.specs.Trace.{Trace, trace, append, nothing}
 use Rattle.reduce_ops.specs.declared.op.Op.{Op}
-use Rattle.reduce_ops.specs.Folds.{fold_from, fold_items, ones}
+use Rattle.reduce_ops.specs.Folds.{fold_from, ones}
 use Rattle.reduce_ops.specs.Operators.{value_of}
 use Rattle.sort_ops.specs.Orders.{sorted_walk}
 use Rattle.sort_ops.specs.Parts.{done_after, values_in}
@@ -26,7 +25,6 @@ use Rattle.batch_eval.specs.Faultless.{AreFaultless}
 use Rattle.prefix_walks.specs.Pieces.{elements}
 use Rattle.job_language.specs.Jobs.{AbstractPlainSource, item}
 use Rattle.job_language.specs.Places.{stage_is_placeless}
-use Rattle.job_meaning.specs.declared.answer.Answer.{Answer}
 use Rattle.job_meaning.specs.declared.answer.Answer.TheVariants as answer
 use Rattle.job_meaning.specs.Walks.{source_walk, unless_fault}
 use Rattle.job_routes.specs.declared.outcome.Outcome.TheVariants as outcome

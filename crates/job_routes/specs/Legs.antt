@@ -1,10 +1,12 @@
 -- Design: the legs of a job.
-use Rattle.std.specs.Prelude.{ℕ, zero, suc, ℤ, pos, Bool, true, false, ◌||◌, ◌+◌, List, [], ◌∷◌, length, map as each_of}
+use Rattle.std.specs.Prelude.{ℕ, zero, suc, ℤ, pos, unsigned_abs, Bool, true, false, if◌then◌else◌, ◌||◌, ◌+◌, ◌-◌}
+use Rattle.std.specs.Prelude.{List, [], ◌∷◌, length, map as each_of}
 use Rattle.std.specs.Prelude.{Option, Some, None, is_some}
 use Rattle.lambda_values.specs.Earlier.{Numbers}
 use Rattle.lambda_values.specs.Term.{Truth}
 use Rattle.lambda_values.specs.declared.item.Item.{Item}
 use Rattle.lambda_values.specs.Streams.{range, range_closed, values}
+use Rattle.trace.specs.declared.item.End.TheVariants as end
 use Rattle.trace.specs.Stages.{AbstractStage, map, filter, flat_map, pipe, stages_of}
 use Rattle.trace.specs.Trace.{Trace, nothing, trace}
 use Rattle.reduce_ops.specs.declared.op.Op.{Op}
@@ -33,6 +35,9 @@ use Rattle.job_routes.specs.declared.fallback.Fallback.TheVariants as fallback
 use Rattle.job_routes.specs.declared.ends.SegmentEnd.{SegmentEnd}
 use Rattle.job_routes.specs.declared.ends.SegmentEnd.TheVariants as ends
 use Rattle.job_routes.specs.declared.numbered_stages.NumberedStages.{NumberedStages}
+use Rattle.job_routes.specs.declared.route.Route.{Route}
+use Rattle.job_routes.specs.declared.route.PlaceSide.{PlaceSide}
+use Rattle.job_routes.specs.declared.route.PlaceSide.TheVariants as side
 use Rattle.job_routes.specs.declared.segment.Segment.{Segment}
 use Rattle.job_routes.specs.declared.leg.Leg.{Leg}
 use Rattle.job_routes.specs.declared.leg.Link.{Link}
@@ -71,8 +76,10 @@ pub record AbstractLeg : Type 0 where
   pub last : AbstractSegment
 
 -- legs of which each goes over the walk that the one before it gives: those that give walks, and the last one, which
--- gives the answer
+-- gives the answer. The first one may be a search: the next one then goes over the positions before the place that it
+-- finds, or over those from it on
 pub record AbstractLegs : Type 0 where
+  pub search : Option PlaceSide
   pub scans : List AbstractLeg
   pub last : AbstractLeg
 
@@ -187,6 +194,45 @@ abbrev pub scanned : List AbstractLeg → Numbers → Trace → Trace
 scanned [] env t = t
 scanned (l ∷ ls) env t = scanned ls env (given_walk (leg_outcome l env t))
 
+-- the items of a walk before this position, or those from it on
+abbrev pub side_of : PlaceSide → ℕ → Trace → Trace
+side_of side.Before k t = windowed 0 (Some k) t
+side_of side.From k t = windowed k None t
+
+-- what a search without a place leaves: all, or nothing but the fault that it met
+abbrev pub unfound : PlaceSide → Answer → Trace → Trace
+unfound side.Before a t = t
+unfound side.From (answer.Fault f) t = trace [] (end.Fault f)
+unfound side.From (answer.Optional v) t = nothing
+unfound side.From (answer.Number z) t = nothing
+unfound side.From (answer.Truth b) t = nothing
+unfound side.From (answer.Array vs) t = nothing
+unfound side.From (answer.Unusable k) t = nothing
+
+-- what is left of a walk that begins at this place, after the answer of a search over it
+abbrev pub left_by_search : PlaceSide → ℕ → Answer → Trace → Trace
+left_by_search s from (answer.Optional (Some z)) t = side_of s (unsigned_abs z - from) t
+left_by_search s from (answer.Optional None) t = unfound s (answer.Optional None) t
+left_by_search s from (answer.Fault f) t = unfound s (answer.Fault f) t
+left_by_search s from (answer.Number z) t = unfound s (answer.Number z) t
+left_by_search s from (answer.Truth b) t = unfound s (answer.Truth b) t
+left_by_search s from (answer.Array vs) t = unfound s (answer.Array vs) t
+left_by_search s from (answer.Unusable k) t = unfound s (answer.Unusable k) t
+
+-- what is left of a walk after a leg, as a search, gave this answer; one that ends in an exact sum leaves nothing
+abbrev pub left_after : PlaceSide → AbstractLeg → Answer → Trace → Trace
+left_after s l a t = if sums_many l.last.ending true then nothing else left_by_search s l.from a (leg_walk l t)
+
+-- what a search leaves of a walk
+abbrev pub searched : PlaceSide → AbstractLeg → Numbers → Trace → Trace
+searched s l env t = left_after s l (given_answer (leg_outcome l env t)) t
+
+-- what legs make of a walk, the first of which may be a search
+abbrev pub scanned_from : Option PlaceSide → List AbstractLeg → Numbers → Trace → Trace
+scanned_from None ls env t = scanned ls env t
+scanned_from (Some s) [] env t = t
+scanned_from (Some s) (l ∷ ls) env t = scanned ls env (searched s l env t)
+
 -- the leg with this number, from 0; a number after the last one's is the last one's
 abbrev pub leg_among : ℕ → List AbstractLeg → AbstractLeg → AbstractLeg
 leg_among k [] last = last
@@ -198,7 +244,7 @@ leg_at k legs = leg_among k legs.scans legs.last
 
 -- the answer of legs
 abbrev pub legs_answer : AbstractLegs → Numbers → Trace → Answer
-legs_answer legs env t = given_answer (leg_outcome legs.last env (scanned legs.scans env t))
+legs_answer legs env t = given_answer (leg_outcome legs.last env (scanned_from legs.search legs.scans env t))
 
 -- ---- the legs of the program
 
@@ -269,6 +315,10 @@ leg_in l = record { from = l.window.from; to = l.window.to; links = links_in l.l
 abbrev pub legs_in : List Leg → List AbstractLeg
 legs_in [] = []
 legs_in (l ∷ ls) = leg_in l ∷ legs_in ls
+
+-- the legs of a route of the program
+abbrev pub legs_of_route : Route → AbstractLegs
+legs_of_route r = record { search = r.search; scans = legs_in r.scans.items; last = leg_in r.last }
 
 -- the answer that a fallback of the program means
 abbrev pub fallback_in : Fallback → Answer

@@ -20,7 +20,6 @@ use crate::segment::Segment;
 use batch_eval::{are_faultless, are_maps};
 use find_ops::FindTerminal;
 use job_language::{JobStage, Terminal};
-use lambda_values::LongExpr;
 use prefix_walks::{Prefix, Window};
 use slice_ops::Slice;
 use std::alloc::Global;
@@ -94,8 +93,7 @@ impl Begun {
         }
     }
 
-    /// Goes over these positions. The number of the slice that selects them goes to a map that changes nothing, if
-    /// stages come before it.
+    /// Goes over these positions. The slice that selects them does no more.
     fn select(&mut self, window: Window) -> Result<(), NoMemory>
         requires few { number_after self.old.stages ≤ 32 }
         ensures kept { OnOk result ((self.new.scans ≡ self.old.scans) × (self.new.links ≡ self.old.links)) }
@@ -105,12 +103,7 @@ impl Begun {
         ensures number { OnOk result (number_after self.new.stages ≡ suc (number_after self.old.stages)) }
     {
         self.window = window;
-        if self.stages.list.is_empty() {
-            self.stages.first += 1;
-            return Ok(());
-        }
-        self.stages.push(Stage::Map(LongExpr::Parameter(0)))?;
-        Ok(())
+        self.stages.pass_over()
     }
 
     /// Adds a slice that a walk goes through.
@@ -257,14 +250,15 @@ impl Begun {
 }
 
 /// The legs of a job of these stages and this terminal: those that give walks, and the last one.
-pub fn legs_of(
+pub(crate) fn legs_of(
     alloc: Global,
     stages: Vec<JobStage>,
     terminal: Terminal,
 ) -> Result<(Vec<Leg>, Leg), NoMemory>
     requires few { length stages.items ≤ 32 }
     ensures { IfOk result (λ made. (env : Numbers) (ss : List AbstractPlainSource)
-        → legs_answer (record { scans = legs_in made.0.items; last = leg_in made.1 }) env (source_walk ss)
+        → legs_answer (record { search = None; scans = legs_in made.0.items; last = leg_in made.1 }) env
+        (source_walk ss)
         ≡ answer_of (suc (length stages.items)) env (terminal_of terminal)
         (after_stages 1 (job_stages_of stages.items) env (source_walk ss))) }
 {

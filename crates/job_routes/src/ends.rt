@@ -99,6 +99,16 @@ impl SegmentEnd {
         }
     }
 
+    /// Whether it takes all items of a walk without a fault, and has none itself.
+    pub(crate) fn takes_all(&self) -> bool {
+        match self {
+            SegmentEnd::Fold(_) | SegmentEnd::Array | SegmentEnd::Prefix(_) => true,
+            SegmentEnd::Sorted { .. } => true,
+            SegmentEnd::Distinct { most } => most.is_none(),
+            SegmentEnd::Find(_) | SegmentEnd::ExactSum => false,
+        }
+    }
+
     /// Whether what it gives has no item before a fault: `distinct` gives such items.
     pub(crate) fn gives_clean(&self) -> bool
         ensures { IsTrue result → (m : Option ℕ) → end_in self.now ≢ keeping_firsts m }

@@ -2,8 +2,8 @@
 
 ghost use Rattle.std.specs.Prelude.{◌+◌, ◌<◌, ◌^◌, length};
 
-use batch_eval::Pipeline;
-use lambda_values::Env;
+use batch_eval::{Pipeline, are_faultless};
+use lambda_values::{Env, LongExpr};
 use std::alloc::Global;
 use trace::{NoMemory, Stage};
 
@@ -49,6 +49,33 @@ impl NumberedStages {
         ensures number { OnOk result (number_after self.new ≡ suc (number_after self.old)) }
     {
         self.list.push(stage)?;
+        Ok(())
+    }
+
+    /// Passes over a stage that does nothing here. Without faults before it no number shows; else it becomes a map that
+    /// changes nothing.
+    pub(crate) fn pass_over(&mut self) -> Result<(), NoMemory>
+        requires few { number_after self.old ≤ 32 }
+        ensures walk { OnOk result ((env : Numbers) (t : Trace)
+            → walk_through self.new env t ≡ walk_through self.old env t) }
+        ensures number { OnOk result (number_after self.new ≡ suc (number_after self.old)) }
+    {
+        if are_faultless(&self.list) {
+            self.first += 1;
+            return Ok(());
+        }
+        self.push(Stage::Map(LongExpr::Parameter(0)))
+    }
+
+    /// Adds the stages that come next.
+    pub(crate) fn append(&mut self, later: NumberedStages) -> Result<(), NoMemory>
+        requires next { later.first ≡ number_after self.old }
+        ensures walk { OnOk result ((env : Numbers) (t : Trace)
+            → walk_through self.new env t ≡ walk_through later env (walk_through self.old env t)) }
+        ensures number { OnOk result (number_after self.new ≡ number_after later) }
+    {
+        let mut list = later.list;
+        self.list.append(&mut list)?;
         Ok(())
     }
 

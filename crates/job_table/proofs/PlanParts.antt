@@ -14,14 +14,18 @@ use Rattle.job_plan.specs.Parts.{EndsFor, StandsEnough, StandsFor, is_running, i
 use Rattle.job_plan.specs.Plans.{plan_in, plans_in}
 use Rattle.job_routes.specs.Legs.{is_one_piece, AbstractEnd, AbstractLeg, AbstractSegment, ended, exactly, given_answer}
 use Rattle.job_routes.specs.Legs.{given_walk, last_stage, leg_at, legs_answer, linked, outcome_of, walk_of}
-use Rattle.job_routes.specs.Legs.{AbstractLegs, leg_among, leg_outcome, scanned}
+use Rattle.job_routes.specs.Legs.{AbstractLegs, leg_among, leg_outcome, leg_walk, left_after, left_by_search, scanned}
+use Rattle.job_routes.specs.Legs.{scanned_from}
+use Rattle.job_routes.specs.Legs.{searched, sums_many}
+use Rattle.job_routes.specs.declared.route.PlaceSide.{PlaceSide}
+use Rattle.job_meaning.specs.declared.answer.Answer.{Answer}
 use Rattle.job_plan.proofs.EnoughLemmas.{whole_enough}
 use Rattle.job_plan.proofs.PartLemmas.{other_ends, settled_decides}
 use Rattle.prefix_walks.specs.Pieces.{IsNotAfter, piece_of}
 use Rattle.prefix_walks.proofs.ScanLemmas.{pieces_joined, whole_piece}
 use Rattle.job_routes.proofs.LinkLemmas.{without_slices, unlinked}
 use Rattle.job_table.specs.PlanLegs.{AbstractChain, PartStands, given_at, gives_at, last_leg, piece_between, size_at}
-use Rattle.job_table.specs.PlanLegs.{source_at, upto, walk_at, walk_size, plan_at}
+use Rattle.job_table.specs.PlanLegs.{gives_on, search_at, source_at, upto, walk_at, walk_size, plan_at}
 use Rattle.job_plan.specs.declared.plan.JobPlan.{JobPlan}
 
 -- the leg after all that end in prefixes
@@ -30,16 +34,22 @@ last_among [] last = refl
 last_among (l ∷ ls) last = last_among ls last
 
 module _ (env : Numbers) where
-  last_passed : (ls : List AbstractLeg) (t : Trace) → scanned (take (length ls) ls) env t ≡ scanned ls env t
-  last_passed [] t = refl
-  last_passed (l ∷ ls) t = last_passed ls (given_walk (leg_outcome l env t))
+  all_passed : (ls : List AbstractLeg) (t : Trace) → scanned (take (length ls) ls) env t ≡ scanned ls env t
+  all_passed [] t = refl
+  all_passed (l ∷ ls) t = all_passed ls (given_walk (leg_outcome l env t))
+
+  last_passed : (o : Option PlaceSide) (ls : List AbstractLeg) (t : Trace)
+      → scanned_from o (take (length ls) ls) env t ≡ scanned_from o ls env t
+  last_passed None ls t = all_passed ls t
+  last_passed (Some d) [] t = refl
+  last_passed (Some d) (l ∷ ls) t = all_passed ls (searched d l env t)
 
   -- the answer of legs is the answer of the last one
   pub answer_there : (legs : AbstractLegs) (t : Trace)
-      → legs_answer legs env t ≡ given_answer
-      (leg_outcome (leg_at (last_leg legs) legs) env (scanned (take (last_leg legs) legs.scans) env t))
+      → legs_answer legs env t ≡ given_answer (leg_outcome (leg_at (last_leg legs) legs) env
+      (scanned_from legs.search (take (last_leg legs) legs.scans) env t))
   answer_there legs t = sym (λ i. given_answer
-      (leg_outcome (last_among legs.scans legs.last i) env (last_passed legs.scans t i)))
+      (leg_outcome (last_among legs.scans legs.last i) env (last_passed legs.search legs.scans t i)))
 
   -- a leg goes over what the one before it gave
   among_on : (k : ℕ) (ls : List AbstractLeg) (last : AbstractLeg) (t : Trace) → k < length ls
@@ -49,9 +59,33 @@ module _ (env : Numbers) where
   among_on (suc k) (l ∷ ls) last t h = among_on k ls last (given_walk (leg_outcome l env t)) (omega arith)
 
   pub goes_on : (k : ℕ) (legs : AbstractLegs) (t : Trace) → k < last_leg legs
-      → scanned (take (suc k) legs.scans) env t
-      ≡ given_walk (leg_outcome (leg_at k legs) env (scanned (take k legs.scans) env t))
-  goes_on k legs t h = among_on k legs.scans legs.last t h
+      → scanned_from legs.search (take (suc k) legs.scans) env t
+      ≡ gives_on (search_at k legs) (leg_at k legs) env (scanned_from legs.search (take k legs.scans) env t)
+  goes_on k legs t h = by k legs.search legs.scans h
+    where
+      by : (k : ℕ) (o : Option PlaceSide) (ls : List AbstractLeg) → k < length ls
+          → scanned_from o (take (suc k) ls) env t
+          ≡ gives_on (search_at k (record { search = o; scans = ls; last = legs.last })) (leg_among k ls legs.last) env
+          (scanned_from o (take k ls) env t)
+      by k o [] h = absurd (omega arith)
+      by zero None (l ∷ ls) h = among_on zero (l ∷ ls) legs.last t h
+      by (suc k) None (l ∷ ls) h = among_on (suc k) (l ∷ ls) legs.last t h
+      by zero (Some d) (l ∷ ls) h = refl
+      by (suc k) (Some d) (l ∷ ls) h = among_on k ls legs.last (searched d l env t) (omega arith)
+
+-- the first leg is given what its job goes over
+pub first_given : (chain : AbstractChain) → given_at chain 0 ≡ chain.source
+first_given chain = by chain.legs.search
+  where
+    by : (o : Option PlaceSide) → scanned_from o (take 0 chain.legs.scans) chain.numbers chain.source ≡ chain.source
+    by None = refl
+    by (Some d) = refl
+
+-- and so is a search
+pub search_given : (chain : AbstractChain) (leg : ℕ) (d : PlaceSide) → search_at leg chain.legs ≡ Some d
+    → given_at chain leg ≡ chain.source
+search_given chain zero d h = first_given chain
+search_given chain (suc leg) d h = absurd (let z : None ≡ Some d = h in cc)
 
 -- a job of the program
 pub plans_length : (js : List JobPlan) → length (plans_in js) ≡ length js
@@ -158,23 +192,45 @@ module _ (chain : AbstractChain) (leg : ℕ) (part : Part) where
 
   -- the next leg goes over what this one gave
   pub goes_over : (o : Outcome) → ((s : AbstractSegment) (t : Trace) → StandsFor s chain.numbers part t
-      → o ≡ outcome_of s chain.numbers t) → leg < last_leg chain.legs → PartStands chain leg 0 (size_at chain leg) part
-      → given_walk o ≡ given_at chain (suc leg)
-  goes_over o ends before stands = ap given_walk (outcome_all o ends stands)
-      ∙ sym (goes_on chain.numbers leg chain.legs chain.source before)
+      → o ≡ outcome_of s chain.numbers t) → leg < last_leg chain.legs → search_at leg chain.legs ≡ None
+      → PartStands chain leg 0 (size_at chain leg) part → given_walk o ≡ given_at chain (suc leg)
+  goes_over o ends before none stands = ap given_walk (outcome_all o ends stands)
+      ∙ sym (goes_on chain.numbers leg chain.legs chain.source before
+      ∙ ap (λ (d : Option PlaceSide). gives_on d (leg_at leg chain.legs) chain.numbers (given_at chain leg)) none)
+
+  -- or what it left of its source, as a search
+  pub goes_over_left : (d : PlaceSide) (o : Outcome)
+      → ((s : AbstractSegment) (t : Trace) → StandsFor s chain.numbers part t
+      → o ≡ outcome_of s chain.numbers t) → leg < last_leg chain.legs → search_at leg chain.legs ≡ Some d
+      → PartStands chain leg 0 (size_at chain leg) part
+      → left_after d (leg_at leg chain.legs) (given_answer o) (given_at chain leg) ≡ given_at chain (suc leg)
+  goes_over_left d o ends before search stands =
+      ap (λ (p : Outcome). left_after d (leg_at leg chain.legs) (given_answer p) (given_at chain leg))
+      (outcome_all o ends stands)
+      ∙ sym (goes_on chain.numbers leg chain.legs chain.source before
+      ∙ ap (λ (e : Option PlaceSide). gives_on e (leg_at leg chain.legs) chain.numbers (given_at chain leg)) search)
 
   -- a part that leaves it open what its leg gives is of a leg that gives no walk
-  searched : (e : AbstractEnd) (n : ℕ) (t w : Trace) → EndsFor e n chain.numbers part t → may_search part ≡ true
-      → nothing ≡ given_walk (ended e n chain.numbers w)
-  searched exactly n t w h may = refl
-  searched e n t w h may = absurd (let z : true ≡ false =
-      sym may ∙ other_ends e n chain.numbers part t (λ x. (let k : e ≡ exactly = x in cc)) h in cc)
+  none_given : (d : Option PlaceSide) (l : AbstractLeg) (t u : Trace)
+      → EndsFor l.last.ending (last_stage l.last) chain.numbers part t → may_search part ≡ true
+      → nothing ≡ gives_on d l chain.numbers u
+  none_given d l t u h may = by d l.last.ending refl h
+    where
+      by : (d : Option PlaceSide) (e : AbstractEnd) → l.last.ending ≡ e
+          → EndsFor e (last_stage l.last) chain.numbers part t → nothing ≡ gives_on d l chain.numbers u
+      by None exactly same h = sym (ap (λ (e : AbstractEnd). given_walk (ended e (last_stage l.last) chain.numbers
+          (walk_of l.last chain.numbers (linked l.links chain.numbers (leg_walk l u))))) same)
+      by (Some d) exactly same h = sym (ap (λ (e : AbstractEnd). if sums_many e true then nothing
+          else left_by_search d l.from (given_answer (leg_outcome l chain.numbers u)) (leg_walk l u)) same)
+      by d e same h = absurd (let z : true ≡ false =
+          sym may ∙ other_ends e (last_stage l.last) chain.numbers part t
+          (λ x. (let k : e ≡ exactly = x in cc)) h in cc)
 
   pub goes_nowhere : leg < last_leg chain.legs → PartStands chain leg 0 (size_at chain leg) part
       → may_search part ≡ true → nothing ≡ given_at chain (suc leg)
   goes_nowhere before (t, enough, h) may =
-      let s = (leg_at leg chain.legs).last in
-      searched s.ending (last_stage s) (walk_of s chain.numbers t) (walk_of s chain.numbers (walk_at chain leg)) h may
+      let l = leg_at leg chain.legs in
+      none_given (search_at leg chain.legs) l (walk_of l.last chain.numbers t) (given_at chain leg) h may
       ∙ sym (goes_on chain.numbers leg chain.legs chain.source before)
 
   -- the last leg gives the answer of the job

@@ -1,20 +1,24 @@
 -- The answers of the jobs of a plan, one by one and all together.
-use Rattle.std.proofs.Common.{◌≡◌, ℕ, zero, suc, pos, ◌+◌, ◌<◌, List, [], ◌∷◌, ◌++◌, length, take, Option, Some, None}
+use Rattle.std.proofs.Common.{◌≡◌, ℕ, zero, suc, pos, Bool, true, false, is_some, ◌+◌, ◌<◌, List, [], ◌∷◌, ◌++◌, length}
+use Rattle.std.proofs.Common.{take, Option, Some, None}
 use Rattle.std.proofs.Common.{Result, Ok, Err, IfOk, slice_get, ap, sym, ◌∙◌, refl, append_assoc, arith, get_or, drop}
-use Rattle.std.specs.Prelude.{slice_index_or}
+use Rattle.std.specs.Prelude.{◌&&◌, slice_index_or}
 use Rattle.std.proofs.lemmas.List.{append-nil, drop_more}
 use Rattle.job_meaning.specs.declared.answer.Answer.{Answer}
 use Rattle.job_meaning.specs.declared.answer.Answer.TheVariants as answer
 use Rattle.job_plan.specs.declared.plan.JobPlan.{JobPlan}
 use Rattle.job_meaning.specs.FileAnswers.{EarlierJob, all_put_in, first_unusable, put_in, unless_unusable}
 use Rattle.job_plan.specs.Plans.{AbstractPlan, jobs_at, planned_after, planned_from, planned_meaning, plans_in}
-use Rattle.job_routes.specs.Legs.{legs_answer}
+use Rattle.job_routes.specs.Legs.{AbstractLegs, legs_answer}
 use Rattle.job_runner.specs.Runs.{AreAnswers}
 use Rattle.job_table.specs.PlanLegs.{answer_of, answers_before, chain_at, named_at, plan_at, AbstractChain, PartStands}
-use Rattle.job_table.specs.PlanLegs.{given_at, last_leg, size_at}
+use Rattle.job_table.specs.PlanLegs.{given_at, last_leg, search_at, size_at}
+use Rattle.job_routes.specs.declared.route.PlaceSide.{PlaceSide}
+use Rattle.job_table.proofs.PlanParts.{first_given}
 use Rattle.lambda_values.specs.Earlier.{Numbers}
 use Rattle.job_language.specs.declared.job.PlainSource.{PlainSource}
-use Rattle.job_language.specs.Jobs.{AbstractPlainSource, source_of, sources_of}
+use Rattle.job_language.specs.Jobs.{AbstractPlainSource, range, range_closed, values, result, source_of, sources_of}
+use Rattle.job_plan.specs.Owned.{takes_arrays}
 use Rattle.job_plan.specs.declared.part.Part.{Part}
 use Rattle.job_meaning.specs.Walks.{instead_of_fault, source_walk}
 
@@ -104,6 +108,15 @@ planned_jobs {X} {F} items js ks same (Ok v) l h =
     answers_planned {F = F} items (plans_in ks) (Ok v) l h ∙ sym (ap (λ xs. planned_meaning (plans_in xs)) same)
 planned_jobs items js ks same (Err e) l h = tt
 
+-- without an array nothing is put in
+none_put : (named : List EarlierJob) (ss : List AbstractPlainSource) → takes_arrays ss ≡ false
+    → all_put_in named ss ≡ ss
+none_put named [] h = refl
+none_put named (range a b ∷ ss) h = ap (λ xs. range a b ∷ xs) (none_put named ss h)
+none_put named (range_closed a b ∷ ss) h = ap (λ xs. range_closed a b ∷ xs) (none_put named ss h)
+none_put named (values vs ∷ ss) h = ap (λ xs. values vs ∷ xs) (none_put named ss h)
+none_put named (result name ∷ ss) h = absurd (let z : true ≡ false = h in cc)
+
 -- ---- what the first leg of a job goes over, and the answer of its last one
 
 module _ (plans : List AbstractPlan) (job : ℕ) (p : AbstractPlan) (same : p ≡ plan_at plans job) where
@@ -114,10 +127,28 @@ module _ (plans : List AbstractPlan) (job : ℕ) (p : AbstractPlan) (same : p �
   put_walk leg sources first put =
       ap source_walk put
       ∙ ap (λ (q : AbstractPlan). source_walk (all_put_in (jobs_at (answers_before plans job) q.named) q.sources)) same
-      ∙ ap (given_at (chain_at plans job)) (sym first)
+      ∙ sym (first_given (chain_at plans job)) ∙ ap (given_at (chain_at plans job)) (sym first)
+
+  -- the sources of a job that takes no array
+  pub own_walk : (own : List AbstractPlainSource) → p.sources ≡ own → takes_arrays own ≡ false
+      → (chain_at plans job).source ≡ source_walk own
+  own_walk own is none =
+      sym (ap (λ (q : AbstractPlan). source_walk (all_put_in (jobs_at (answers_before plans job) q.named) q.sources))
+      same)
+      ∙ ap (λ ss. source_walk (all_put_in (jobs_at (answers_before plans job) p.named) ss)) is
+      ∙ ap source_walk (none_put (jobs_at (answers_before plans job) p.named) own none)
 
   pub legs_there : (chain_at plans job).legs ≡ p.legs
   legs_there = sym (ap (λ (q : AbstractPlan). q.legs) same)
+
+  -- a search is over the job's own sources
+  pub search_own : (own : List AbstractPlainSource) (o : Option PlaceSide) (leg : ℕ) → p.sources ≡ own
+      → p.legs.search ≡ o → (is_some o && takes_arrays own) ≡ false
+      → is_some (search_at leg (chain_at plans job).legs) ≡ true → (chain_at plans job).source ≡ source_walk own
+  search_own own o zero is search none h =
+      own_walk own is (sym (ap (λ (b : Bool). b && takes_arrays own)
+      (ap is_some (sym (ap (λ (l : AbstractLegs). l.search) legs_there ∙ search)) ∙ h)) ∙ none)
+  search_own own o (suc leg) is search none h = absurd (let z : false ≡ true = h in cc)
 
   -- the answer of a job that is walked
   pub answered : {F : Type 0} (env : Numbers) (part : Part) (r : Result Answer F) → job < length plans

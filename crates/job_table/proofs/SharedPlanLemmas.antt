@@ -17,7 +17,7 @@ use Rattle.sort_ops.specs.contracts.distinct_part.DistinctPart as firsts
 use Rattle.sort_ops.specs.contracts.new_values.NewValues as values
 use Rattle.prefix_walks.specs.contracts.folded_piece.FoldedPiece as pieces
 use Rattle.job_plan.specs.contracts.part.Part as parts
-use Rattle.prefix_walks.specs.contracts.given.GivenWalk as given_walks
+use Rattle.job_plan.specs.contracts.given.Given as given_walks
 use Rattle.job_table.specs.contracts.planned.PlanJobs as plan_jobs
 
 -- expressions, as a field and as an element
@@ -74,8 +74,8 @@ firsts_send = search (sendable, crosses, values_send) depth 60 fits 20000
 pub part_send : (a : NamedLft) → IsSend (parts.the_row a)
 part_send a = search (sendable, crosses, truth_field, piece_send, firsts_send) depth 60 fits 20000
 
-pub source_send : (a : NamedLft) → IsSend (given_walks.the_row a)
-source_send a = search (sendable, crosses, truth_field, piece_send) depth 60 fits 20000
+pub source_send : (a c : NamedLft) → IsSend (given_walks.the_row a c)
+source_send a c = search (sendable, crosses, truth_field, piece_send) depth 60 fits 20000
 
-pub source_sync : (a : NamedLft) → IsSync (given_walks.the_row a)
-source_sync a = search (sendable, crosses, truth_field, piece_sync) depth 60 fits 20000
+pub source_sync : (a c : NamedLft) → IsSync (given_walks.the_row a c)
+source_sync a c = search (sendable, crosses, truth_field, piece_sync) depth 60 fits 20000

@@ -1,5 +1,6 @@
 -- Condition: the legs of a plan: what each goes over, and what its parts describe; and the plan as what a run is over.
-use Rattle.std.specs.Prelude.{◌≡◌, ℕ, pos, ◌-◌, ◌^◌, min, take, List, [], length, Option, Some, None, slice_index_or}
+use Rattle.std.specs.Prelude.{◌≡◌, ℕ, zero, suc, pos, ◌-◌, ◌^◌, min, take, List, [], length, Option, Some, None}
+use Rattle.std.specs.Prelude.{slice_index_or}
 use Rattle.std.specs.Prelude.{if◌then◌else◌, ◌==◌}
 use Rattle.std.specs.Coded.{×_prop}
 use Rattle.std.proofs.Props.{props}
@@ -19,7 +20,8 @@ use Rattle.job_meaning.specs.FileAnswers.{EarlierJob, all_put_in, first_unusable
 use Rattle.job_meaning.specs.Walks.{source_walk}
 use Rattle.job_routes.specs.declared.outcome.Outcome.{Outcome}
 use Rattle.job_routes.specs.Legs.{AbstractLeg, AbstractLegs, collecting, is_one_piece, leg_at, leg_walk, linked}
-use Rattle.job_routes.specs.Legs.{outcome_of, scanned}
+use Rattle.job_routes.specs.Legs.{given_walk, leg_outcome, outcome_of, scanned_from, searched}
+use Rattle.job_routes.specs.declared.route.PlaceSide.{PlaceSide}
 use Rattle.job_plan.specs.declared.part.Part.{Part}
 use Rattle.job_plan.specs.declared.plan.JobPlan.{JobPlan}
 use Rattle.job_plan.specs.contracts.plan.JobPlan as plans
@@ -40,6 +42,7 @@ no_plan = record {
   named = [];
   sources = [];
   legs = record {
+    search = None;
     scans = [];
     last = record
         { from = 0; to = None; links = []; last = record { first = 0; stages = []; ending = collecting } };
@@ -77,10 +80,20 @@ chain_at plans job = record {
 abbrev pub last_leg : AbstractLegs → ℕ
 last_leg legs = length legs.scans
 
+-- which positions the next leg goes over, if the leg with this number is a search
+abbrev pub search_at : ℕ → AbstractLegs → Option PlaceSide
+search_at zero legs = legs.search
+search_at (suc k) legs = None
+
+-- what a leg gives to the next one, of what it is given; it may be a search
+abbrev pub gives_on : Option PlaceSide → AbstractLeg → Numbers → Trace → Trace
+gives_on None l env t = given_walk (leg_outcome l env t)
+gives_on (Some d) l env t = searched d l env t
+
 -- what the leg of a job with this number is given, what it goes over of that, and what comes through its slices to its
 -- last segment
 abbrev pub given_at : AbstractChain → ℕ → Trace
-given_at chain k = scanned (take k chain.legs.scans) chain.numbers chain.source
+given_at chain k = scanned_from chain.legs.search (take k chain.legs.scans) chain.numbers chain.source
 
 abbrev pub source_at : AbstractChain → ℕ → Trace
 source_at chain k = leg_walk (leg_at k chain.legs) (given_at chain k)

@@ -13,18 +13,17 @@ use crate::planned::{PlanBrand, PlanJobs};
 use batch_eval::Registers;
 use early_stop::{Never, Stop};
 use job_meaning::Answer;
-use job_plan::{Part, Source, unwalked};
+use job_plan::{Given, Part, Source, unwalked};
 use job_routes::Outcome;
 use job_runner::{Begun, CutPiece, EarlierAnswers, JobLegs, LegInput, NextSource, NoMemory, Piece};
 use lambda_values::Env;
-use prefix_walks::GivenWalk;
 use std::alloc::Global;
 use trace::Fault;
 
 impl<'a, 'c, P: PlanBrand> JobLegs for PlanJobs<'a, 'c, P> {
     type Part = Part<'a>;
 
-    type Source = GivenWalk<'a>;
+    type Source = Given<'a, 'c>;
 
     type Answer = Answer;
 
@@ -103,7 +102,7 @@ impl<'a, 'c, P: PlanBrand> JobLegs for PlanJobs<'a, 'c, P> {
         &self,
         alloc: Global,
         piece: Piece,
-        input: LegInput<'_, '_, GivenWalk<'a>, Env<'c>, E>,
+        input: LegInput<'_, '_, Given<'a, 'c>, Env<'c>, E>,
         registers: &mut Registers,
         stop: &mut W,
     ) -> Result<Part<'a>, NoMemory>
@@ -134,11 +133,11 @@ impl<'a, 'c, P: PlanBrand> JobLegs for PlanJobs<'a, 'c, P> {
         leg: usize,
         part: Part<'a>,
         given: &Env,
-    ) -> Result<NextSource<GivenWalk<'a>>, NoMemory> {
+    ) -> Result<NextSource<Given<'a, 'c>>, NoMemory> {
         let last = self.last_leg(job);
         prove!(leg < last);
         let next = self.job(job).leg(leg + 1);
-        let source = next_walk(alloc, part, given)?;
+        let source = next_walk(alloc, self.job(job), leg, part, given)?;
         let size = positions(next, Source::of_given(&source));
         Ok(NextSource { source, size })
     }
@@ -148,7 +147,7 @@ impl<'a, 'c, P: PlanBrand> JobLegs for PlanJobs<'a, 'c, P> {
         alloc: Global,
         job: usize,
         part: Part<'a>,
-        input: LegInput<'_, '_, GivenWalk<'a>, Env<'c>, E>,
+        input: LegInput<'_, '_, Given<'a, 'c>, Env<'c>, E>,
         registers: &mut Registers,
     ) -> Result<Answer, NoMemory>
         requires job { job < length (plans_in P.jobs) }

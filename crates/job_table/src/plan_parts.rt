@@ -1,20 +1,21 @@
 //! The legs of one job of a plan: how a piece is walked, and what comes of a whole leg.
 ghost use Rattle.std.specs.Prelude.{◌≡◌, ◌≢◌, ◌+◌, ◌<◌, ◌≤◌, ℕ, false, true};
-ghost use Rattle.std.specs.Prelude.{None, IfNone, IfOk, IfSome};
+ghost use Rattle.std.specs.Prelude.{None, IfNone, IfOk, IfSome, is_some};
 ghost use Rattle.early_stop.specs.Decisive.{Decides};
 ghost use Rattle.job_routes.specs.Legs.{leg_in, leg_at, legs_answer};
 ghost use Rattle.job_plan.specs.Parts.{may_search, walk_in};
 ghost use Rattle.job_plan.specs.Plans.{plan_in};
 ghost use Rattle.prefix_walks.specs.Pieces.{IsNotAfter};
-ghost use Rattle.job_meaning.specs.Walks.{instead_of_fault};
+ghost use Rattle.job_meaning.specs.Walks.{instead_of_fault, source_walk};
+ghost use Rattle.job_language.specs.Jobs.{sources_of};
 ghost use Rattle.job_table.specs.PlanLegs.{AbstractChain, PartStands, given_at, gives_at, last_leg};
-ghost use Rattle.job_table.specs.PlanLegs.{positions_of, size_at, upto, walk_at, walk_size};
+ghost use Rattle.job_table.specs.PlanLegs.{positions_of, search_at, size_at, upto, walk_at, walk_size};
 
 use batch_eval::Registers;
 use early_stop::Stop;
 use job_meaning::Answer;
-use job_plan::{JobPlan, Part, Source, Walked, leaf_until, streamed};
-use job_routes::Leg;
+use job_plan::{Given, JobPlan, Part, Source, Walked, leaf_until, streamed};
+use job_routes::{Leg, PlaceSide};
 use job_runner::{NoMemory, Piece};
 use lambda_values::Env;
 use prefix_walks::{GivenWalk, Window};
@@ -88,19 +89,36 @@ pub(crate) fn walked_piece<'a, W: Stop>(
     leaf_until(alloc, leg, walked, window, registers, stop)
 }
 
-/// What the next leg goes over, of the part of a whole leg.
-pub(crate) fn next_walk<'a>(
+/// Which positions the next leg goes over, if this leg of a job is a search.
+fn search_at(plan: &JobPlan, leg: usize) -> Option<PlaceSide>
+    ensures { result ≡ search_at leg (plan_in plan.now).legs }
+{
+    if leg == 0 { plan.search } else { None }
+}
+
+/// What the next leg goes over, of the part of a whole leg. A search is over the job's own sources.
+pub(crate) fn next_walk<'a, 'c>(
     alloc: Global,
+    plan: &'a JobPlan<'c>,
+    leg: usize,
     part: Part<'a>,
     env: &Env,
-) -> Result<GivenWalk<'a>, NoMemory>
-    ensures { IfOk result (λ given. (chain : AbstractChain) (k : ℕ) → chain.numbers ≡ env.now
-        → k < last_leg chain.legs
-        → PartStands chain k 0 (size_at chain k) part.entry → given ≡ given_at chain (k + 1)) }
+) -> Result<Given<'a, 'c>, NoMemory>
+    ensures { IfOk result (λ given. (chain : AbstractChain) → chain.legs ≡ (plan_in plan.now).legs
+        → chain.numbers ≡ env.now → leg < last_leg chain.legs
+        → (is_some (search_at leg chain.legs) ≡ true
+        → chain.source ≡ source_walk (sources_of plan.now.sources.items))
+        → PartStands chain leg 0 (size_at chain leg) part.entry → given ≡ given_at chain (leg + 1)) }
 {
-    match part.finish(alloc, env)? {
-        Some(outcome) => Ok(outcome.walk()),
-        None => Ok(GivenWalk::ended(End::Done)),
+    let Some(outcome) = part.finish(alloc, env)? else {
+        return Ok(Given::walk(GivenWalk::ended(End::Done)));
+    };
+    match search_at(plan, leg) {
+        Some(side) => {
+            let answer = outcome.answer();
+            Ok(Given::searched(&plan.sources, plan.leg(leg), side, answer))
+        }
+        None => Ok(Given::walk(outcome.walk())),
     }
 }
 

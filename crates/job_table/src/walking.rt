@@ -12,10 +12,9 @@ use crate::planned::{PlanBrand, PlanJobs};
 use batch_eval::Registers;
 use early_stop::Stop;
 use job_meaning::Answer;
-use job_plan::{Part, Source, Walked};
+use job_plan::{Given, Part, Source, Walked};
 use job_runner::{EarlierAnswers, LegInput, NoMemory, Piece};
 use lambda_values::Env;
-use prefix_walks::GivenWalk;
 use std::alloc::Global;
 
 impl<'a, 'c, P: PlanBrand> PlanJobs<'a, 'c, P> {
@@ -26,7 +25,7 @@ impl<'a, 'c, P: PlanBrand> PlanJobs<'a, 'c, P> {
         alloc: Global,
         piece: Piece,
         in_order: bool,
-        input: LegInput<'_, '_, GivenWalk<'a>, Env<'c>, E>,
+        input: LegInput<'_, '_, Given<'a, 'c>, Env<'c>, E>,
         registers: &mut Registers,
         stop: &mut W,
     ) -> Result<Part<'a>, NoMemory>

@@ -136,10 +136,10 @@ fn jobs<'c>(alloc: Global, columns: &'c Columns) -> Option<Vec<Job<'c>>> {
 
 fn plans(alloc: Global) -> Option<bool> {
     let columns = Columns::none();
-    match Plan::of(alloc, jobs(alloc, &columns)?) {
+    match Plan::of(alloc, jobs(alloc, &columns)?, 4) {
         Ok(plan) => (plan.jobs.len() == 2).then_some(false),
         Err(_) => {
-            let plan = Plan::of(alloc, jobs(alloc, &columns)?).ok()?;
+            let plan = Plan::of(alloc, jobs(alloc, &columns)?, 4).ok()?;
             (plan.jobs.len() == 2).then_some(true)
         }
     }

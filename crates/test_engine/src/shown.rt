@@ -24,7 +24,7 @@ pub(crate) fn plan_of<'c>(
     columns: &'c Columns,
 ) -> Result<Plan<'c>, AllocError> {
     match read_jobs(alloc, file, columns) {
-        Ok(jobs) => Plan::of(alloc, jobs),
+        Ok(jobs) => Plan::of(alloc, jobs, 4),
         Err(_) => Err(AllocError),
     }
 }

@@ -1,4 +1,4 @@
-use Rattle.std.proofs.Common.{◌≡◌, ◌∷◌, List, take, true, refl, sym, ap, subst, ◌∙◌, rules}
+use Rattle.std.proofs.Common.{◌≡◌, ◌∷◌, List, take, true, sym, subst, rules}
 use Rattle.trace.specs.declared.stage.Stage.{Stage}
 use Rattle.trace.specs.Stages.{stage_of, stages_of}
 use Rattle.batch_eval.specs.Faultless.{AreFaultless}

@@ -6,7 +6,7 @@ use denote.Param.{param}
 use denote.Param.Send.{arg_send, arg_sync, param_send, param_sync}
 use mir.Syntax.{static}
 use Rattle.job_plan.specs.contracts.part.Part as parts
-use Rattle.prefix_walks.specs.contracts.given.GivenWalk as given_walks
+use Rattle.job_plan.specs.contracts.given.Given as given_walks
 use Rattle.job_table.specs.contracts.planned.PlanJobs as plan_jobs
 use Rattle.job_table.proofs.SharedPlanLemmas.{jobs_send, jobs_sync, part_send, source_send, source_sync}
 use Rattle.job_table.proofs.planned.run_as.Goals as goal
@@ -30,8 +30,10 @@ run_all-requires-send-S-Part g c = λ κs within. param_send 3 _ (arg_send _ no 
 
 pub run_all-requires-send-S-Source : goal.run_all-requires-send-S-Source
 run_all-requires-send-S-Source g c = λ κs within. param_send 4 _
-    (arg_send _ no (given_walks.the_row (record { mir = static; lft = _ })) (source_send _))
+    (arg_send _ no (given_walks.the_row (record { mir = static; lft = _ }) (record { mir = static; lft = _ }))
+    (source_send _ _))
 
 pub run_all-requires-sync-S-Source : goal.run_all-requires-sync-S-Source
 run_all-requires-sync-S-Source g c = λ κs within. param_sync 4 _
-    (arg_sync _ no (given_walks.the_row (record { mir = static; lft = _ })) (source_sync _))
+    (arg_sync _ no (given_walks.the_row (record { mir = static; lft = _ }) (record { mir = static; lft = _ }))
+    (source_sync _ _))

@@ -16,7 +16,7 @@ returns c =
         fallback = c.fallback_of-fallback.ensures;
         table = refl;
         answers = λ env ss.
-            c.in_ok-scans.ensures env ss
+            c.in_ok-search.ensures.answer env ss
             ∙ sym (ap (λ n. answer_of (suc n) env (terminal_of job.terminal)
             (after_stages 1 (job_stages_of stages) env (source_walk ss))) (length_job_stages stages));
       };

@@ -1,4 +1,4 @@
-use Rattle.std.proofs.Common.{◌≡◌, suc, ◌-◌, ◌<◌, Bool, true, false, length, set, refl, arith, rules}
+use Rattle.std.proofs.Common.{◌≡◌, suc, ◌-◌, ◌<◌, false, length, set, refl, arith, rules}
 use Rattle.trace.specs.Stages.{stages_of}
 use Rattle.trace.specs.Trace.{Trace}
 use Rattle.sort_ops.specs.Runs.{with_places}

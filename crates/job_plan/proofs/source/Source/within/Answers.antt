@@ -2,7 +2,7 @@ use Rattle.std.proofs.Common.{List, sym, ap}
 use Rattle.lambda_values.specs.declared.item.Item.{Item}
 use Rattle.trace.specs.Trace.{trace}
 use Rattle.job_plan.specs.Bases.{base_walk}
-use Rattle.job_plan.proofs.source.Source.of_leg.Goals as goal
+use Rattle.job_plan.proofs.source.Source.within.Goals as goal
 
 pub returns : goal.returns
 returns c =
