@@ -1,4 +1,4 @@
-use Rattle.std.proofs.Common.{◌≡◌, List, Ok, sym, ap, subst, ◌∙◌, refl}
+use Rattle.std.proofs.Common.{◌≡◌, ℤ, List, Ok, sym, ap, subst, ◌∙◌, refl, rules, w64, to_z, of_z}
 use Rattle.lambda_values.specs.declared.item.Item.{Item}
 use Rattle.trace.specs.Cover.{counted, placed}
 use Rattle.trace.specs.Sinks.{IsFed}
@@ -22,5 +22,7 @@ returns-in-Range-clause-fed g c = λ yes xs took.
     let whole : piped line (trace (batch_items c.args.items.now) end.Done) ≡ trace zs end.Done =
     unpiped line (trace (batch_items c.args.items.now) end.Done) none
     ∙ ap (λ (i : BatchItems). trace (batch_items i) end.Done) c.in-Range.is in
-    let taken = c.accept_run.ensures.taken yes xs zs (values_placed r.origin (counted r.first r.count)) took in
+    let fits : to_z w64 (of_z w64 r.first) ≡ r.first = search rules in
+    let same = values_placed r.origin (counted r.first r.count) ∙ ap (λ (a : ℤ). counted a r.count) (sym fits) in
+    let taken = c.accept_run.ensures.taken yes xs zs same took in
     subst (λ (t : Trace). IsFed h xs t (Ok fed.More) c.accept_run.new.self) (sym whole) (taken, refl)
