@@ -1,15 +1,17 @@
 //! Folds of the values of a batch, or of those whose flag is set: one loop, compiled for each operator.
 
 ghost use Rattle.batch_eval.specs.Batches.{flagged_values, holds};
-ghost use Rattle.std.specs.Prelude.{◌≡◌, ◌<◌, ◌≤◌, IfNone, IfSome, List, None, Some, fold, length, map, true};
+ghost use Rattle.std.specs.Prelude.{◌≡◌, ◌<◌, ◌≤◌, ◌^◌, IfNone, IfSome, List, None, Some, false, fold, length};
+ghost use Rattle.std.specs.Prelude.{map, pos, true};
 ghost use Rattle.trace.specs.declared.item.End.TheVariants as end;
 ghost use Rattle.lambda_values.specs.declared.item.Item.{Item as item};
 ghost use Rattle.trace.specs.Trace.{trace};
 ghost use Rattle.lambda_values.specs.Streams.{run_values};
+ghost use Rattle.lambda_values.specs.Wrap.{wrap};
 ghost use Rattle.reduce_ops.specs.Operators.{identity_of, value_of};
 ghost use Rattle.reduce_ops.specs.Parts.{StandsFor};
 ghost use Rattle.prefix_scan.specs.Scans.{joined_value};
-ghost use Rattle.prefix_walks.specs.Batches.{counted_as, each_one, folded_values};
+ghost use Rattle.prefix_walks.specs.Batches.{counted_as, each_one, folded_values, total_below};
 
 use batch_eval::FlaggedLanes;
 use lambda_values::Run;
@@ -122,13 +124,26 @@ fn fold_run(op: Op, run: Run) -> Option<i64>
     }
 }
 
-/// The sum of some integers in a row: the first one for each, and what they have beyond it, 0, 1, 2 and so on.
+/// The sum of some integers in a row: the first one for each of them, and 0, 1, 2 and so on.
 fn sum_of_run(run: Run) -> i64
     requires some { 0 < run.count }
     ensures { Some result ≡ folded_values (value_of Op.Sum) false (run_values run) }
 {
-    let beyond = u128::from(run.count) * u128::from(run.count - 1) / 2;
-    run.first.wrapping_mul(run.count as i64).wrapping_add(beyond as i64)
+    let firsts = run.first.wrapping_mul(run.count as i64);
+    firsts.wrapping_add(sum_below(run.count))
+}
+
+/// The sum of the natural numbers below this one. Of two factors the even one is halved, so that no bit is lost.
+fn sum_below(count: u64) -> i64
+    requires some { 0 < count }
+    requires few { count ≤ 2 ^ 62 }
+    ensures { result ≡ wrap (pos (total_below count)) }
+{
+    if count % 2 == 0 {
+        ((count / 2) as i64).wrapping_mul((count - 1) as i64)
+    } else {
+        (count as i64).wrapping_mul(((count - 1) / 2) as i64)
+    }
 }
 
 /// The fold of the values whose flag is set, or of a 1 for each of them. `None` if the operator has no identity, which

@@ -1,5 +1,4 @@
-use Rattle.std.proofs.Common.{◌≡◌, ℤ, List, Ok, sym, ap, subst, ◌∙◌, refl, rules, w64, to_z, of_z}
-use Rattle.lambda_values.specs.declared.item.Item.{Item}
+use Rattle.std.proofs.Common.{◌≡◌, ℤ, Ok, sym, ap, subst, ◌∙◌, refl, rules, w64, to_z, of_z}
 use Rattle.trace.specs.Cover.{counted, placed}
 use Rattle.trace.specs.Sinks.{IsFed}
 use Rattle.trace.specs.Trace.{Trace, trace}
