@@ -1,6 +1,7 @@
 -- Folds of integers in a row.
 use Rattle.std.proofs.Common.{◌≡◌, ℕ, zero, suc, ◌+◌, ◌*◌, ◌/◌, ◌<◌, ◌^◌, ℤ, pos, ◌+ℤ◌, FitsSigned, w64, false}
-use Rattle.std.proofs.Common.{List, [], ◌∷◌, Some, fold, refl, sym, ap, ap₂, subst, ◌∙◌, arith, add-mul, suc-mul, mul-suc}
+use Rattle.std.proofs.Common.{List, [], ◌∷◌, Some, fold, refl, sym, ap, ap₂, subst, ◌∙◌, arith, add-mul, suc-mul}
+use Rattle.std.proofs.Common.{mul-suc}
 use Rattle.std.proofs.Common.{◌⊎◌, ◌≢◌, ◌-◌, ◌%◌, to_z, mul_assoc, mul_right_comm}
 use mathlib.Core.Logic.{⊎_elim}
 use Rattle.std.proofs.lemmas.Nat.{div-add-mod'}
@@ -83,7 +84,8 @@ sum_is v (suc n) =
     let p = pos n *ℤ v in
     let rest : sum_from (v +ℤ pos 1) n ≡ (p +ℤ pos n) +ℤ pos (total_below n) =
     sum_is (v +ℤ pos 1) n ∙ ap (λ (z : ℤ). z +ℤ pos (total_below n)) (times_more n v) in
-    let turned : v +ℤ ((p +ℤ pos n) +ℤ pos (total_below n)) ≡ (p +ℤ v) +ℤ pos (total_below n + n) = omega (arith, ints) in
+    let turned : v +ℤ ((p +ℤ pos n) +ℤ pos (total_below n)) ≡ (p +ℤ v) +ℤ pos (total_below n + n) =
+        omega (arith, ints) in
     ap (λ (z : ℤ). v +ℤ z) rest ∙ turned ∙ ap (λ (z : ℤ). z +ℤ pos (total_below n + n)) (sym (suc_ℤ-*ℤ (pos n) v))
 
 pub sum_folded : (v : ℤ) (n : ℕ) → FitsSigned w64 v → 0 < n

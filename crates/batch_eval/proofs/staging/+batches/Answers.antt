@@ -16,7 +16,8 @@ use Rattle.batch_eval.specs.Pipelines.{AreImages, piped}
 use Rattle.batch_eval.specs.Pours.{Holds, Poured}
 use Rattle.batch_eval.proofs.SetItemLemmas.{none_left}
 use Rattle.batch_eval.proofs.WaitingItemLemmas.{holds_none, holds_ended, holds_added, holds_further, flushed}
-use Rattle.batch_eval.proofs.WaitingItemLemmas.{poured_rest, poured_stopped, inner_stopped, each_next, each_fault, each_whole}
+use Rattle.batch_eval.proofs.WaitingItemLemmas.{poured_rest, poured_stopped, inner_stopped, each_next, each_fault}
+use Rattle.batch_eval.proofs.WaitingItemLemmas.{each_whole}
 use Rattle.batch_eval.proofs.Items.{length_lanes}
 use Rattle.batch_eval.proofs.RowLemmas.{operands_laid}
 use Rattle.batch_eval.proofs.RunLemmas.{none_waits, taken_at_once, values_at_place}
