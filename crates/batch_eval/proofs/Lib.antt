@@ -15,6 +15,7 @@ pub mod RangeLemmas
 pub mod ReciprocalLemmas
 pub mod RestLemmas
 pub mod RowLemmas
+pub mod RunLemmas
 pub mod SetItemLemmas
 pub mod ShiftLemmas
 pub mod Steps

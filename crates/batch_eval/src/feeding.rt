@@ -3,7 +3,7 @@
 ghost use Rattle.batch_eval.specs.BatchItems.{batch_items, laid};
 ghost use Rattle.batch_eval.specs.Pipelines.{piped};
 ghost use Rattle.batch_eval.specs.Rooms.{FitsStages};
-ghost use Rattle.std.specs.Prelude.{◌≡◌, ◌+◌, ◌<◌, ◌≤◌, ◌^◌, List, Ok, OnErr, length, take};
+ghost use Rattle.std.specs.Prelude.{◌≡◌, ◌+◌, ◌<◌, ◌≤◌, ◌^◌, List, Ok, OnErr, false, length, take, true};
 ghost use Rattle.trace.specs.Cover.{counted, placed};
 ghost use Rattle.trace.specs.Sinks.{IsFed, flow_after};
 ghost use Rattle.trace.specs.Stages.{stages_of};
@@ -21,6 +21,7 @@ use crate::register::LANES;
 use crate::registers::{Registers, Space, may_grow};
 use crate::sink::BatchSink;
 use crate::staging::feed_batch;
+use lambda_values::Run;
 use trace::{End, Fed, Flow, NoMemory, RangeItems, SourceItems, Stage, feed_all};
 
 /// The first batch of a walk. Each further one is four times as large, up to `most_items`, so that a sink that soon has
@@ -47,7 +48,30 @@ pub fn feed_batches<S: BatchSink>(
     ensures flow { S.flow sink.new ≡ flow_after result }
     ensures refused { OnErr result S.takes_memory }
 {
+    if takes_run(line, items, sink) {
+        return Ok(Fed::More);
+    }
     feed_from(line, items, FIRST_BATCH, registers, sink)
+}
+
+/// Gives a sink the items of a range at once, if there is no stage and the sink takes them so. It answers whether the
+/// sink took them.
+fn takes_run<S: BatchSink>(line: Pipeline<'_>, items: &BatchItems<'_>, sink: &mut S) -> bool
+    requires wants { S.flow sink.old ≡ Flow.More }
+    ensures fed { result ≡ true → (xs : List Item) → S.has_taken sink.old xs → IsFed S.has_taken xs
+        (piped line.entry (trace (batch_items items.now) end.Done)) (Ok fed.More) sink.new }
+    ensures other { result ≡ false → sink.new ≡ sink.old }
+    ensures flow { S.flow sink.new ≡ Flow.More }
+{
+    match items {
+        BatchItems::Range(range) if line.stages.is_empty() && sink.takes_runs() => {
+            sink.accept_run(Run {
+                first: range.first,
+                count: range.count,
+            })
+        }
+        _ => false,
+    }
 }
 
 /// Feeds items as `feed_batches` does, but the first batch may hold 1,024 items already. It is for items that were

@@ -2,7 +2,8 @@
 
 ghost use Rattle.batch_eval.specs.BatchItems.{laid};
 ghost use Rattle.batch_eval.specs.Batches.{flagged_items, holds};
-ghost use Rattle.std.specs.Prelude.{◌≡◌, List, OnErr};
+ghost use Rattle.lambda_values.specs.Streams.{run_values};
+ghost use Rattle.std.specs.Prelude.{◌≡◌, List, ◌++◌, OnErr, false, map, true};
 ghost use Rattle.trace.specs.Sinks.{IsFed, flow_after};
 ghost use Rattle.trace.specs.Trace.{trace};
 ghost use Rattle.trace.specs.declared.item.End.TheVariants as end;
@@ -10,7 +11,7 @@ ghost use Rattle.lambda_values.specs.declared.item.Item.{Item};
 
 use crate::flagged::{FlaggedLanes, accept_each_flagged};
 use crate::lane_items::LaneItems;
-use lambda_values::BoolExpr;
+use lambda_values::{BoolExpr, Run};
 use trace::{Fed, Flow, LongSink, NoMemory, SourceItems};
 
 /// A sink that takes the items of a batch at once.
@@ -45,6 +46,23 @@ pub trait BatchSink: LongSink {
         ensures refused { OnErr result Self.takes_memory }
     {
         accept_each_flagged(lanes, self)
+    }
+
+    /// Whether integers in a row that come to the sink are to be given to it by `accept_run`, not put into lanes.
+    fn takes_runs(&self) -> bool {
+        false
+    }
+
+    /// Takes items whose values are integers in a row, wherever their places are, if the sink has a way that takes no
+    /// longer for more of them, and answers whether it did. If not, the sink is as before.
+    fn accept_run(&mut self, _run: Run) -> bool
+        requires wants { Self.flow self.old ≡ Flow.More }
+        ensures taken { result ≡ true → (xs ys : List Item) → map (λ y. y.value) ys ≡ run_values _run
+            → Self.has_taken self.old xs → Self.has_taken self.new (xs ++ ys) }
+        ensures other { result ≡ false → self.new ≡ self.old }
+        ensures flow { Self.flow self.new ≡ Flow.More }
+    {
+        false
     }
 
     /// The test that the sink asks of items, if it asks one. A walk then looks for room that is enough for it as well.

@@ -6,7 +6,7 @@ ghost use Rattle.batch_eval.specs.Pipelines.{piped};
 ghost use Rattle.batch_eval.specs.Pours.{Holds, Poured};
 ghost use Rattle.batch_eval.specs.Rooms.{FitsStages};
 ghost use Rattle.lambda_values.specs.Streams.{inner_of, run_or_listed};
-ghost use Rattle.std.specs.Prelude.{◌≡◌, ◌+◌, ◌<◌, ◌^◌, List, ◌++◌, Ok, OnErr, Some, length};
+ghost use Rattle.std.specs.Prelude.{◌≡◌, ◌+◌, ◌<◌, ◌≤◌, ◌^◌, List, [], ◌++◌, Ok, OnErr, Some, length};
 ghost use Rattle.trace.specs.Sinks.{IsFed, flow_after};
 ghost use Rattle.trace.specs.Stages.{at_place, flat_map, of_item, stages_of};
 ghost use Rattle.trace.specs.Trace.{each, trace};
@@ -20,10 +20,13 @@ use crate::lane_items::LaneItems;
 use crate::pipeline::Pipeline;
 use crate::register::LANES;
 use crate::sink::BatchSink;
-use lambda_values::{InnerExpr, ListedValues};
+use lambda_values::{InnerExpr, ListedValues, Run};
 use trace::{
     End, Fault, Fed, Flow, InnerItems, Item, NoMemory, SourceItems, Stage, asked, feed_all,
 };
+
+/// With more values waiting there is no space for another.
+const MOST_WAITING: u64 = LANES as u64 - 1;
 
 /// A `flatMap` of a pipeline: its number, its expression, and the stages after it.
 #[derive(Clone, Copy)]
@@ -141,10 +144,68 @@ fn feed_inner<S: BatchSink>(
     finish(later, end, pending, rest, room, sink)
 }
 
+/// Takes the values of an inner stream after those that wait: at once if they are integers in a row, no stage comes
+/// and the sink takes them so, else by adding them to those that wait.
+#[cycle(batches)]
+fn pour<S: BatchSink>(
+    line: Pipeline<'_>,
+    values: &InnerItems<'_>,
+    pending: &mut Batch,
+    rest: &mut [Batch],
+    room: &mut [i64],
+    sink: &mut S,
+) -> Result<Fed, NoMemory>
+    requires wants { S.flow sink.old ≡ Flow.More }
+    requires room { FitsStages (stages_of line.stages.now) (length room.old) }
+    ensures poured { (xs whole : List Item) → Holds S.has_taken line.entry xs whole pending.old.items sink.old
+        → Poured S.has_taken line.entry xs (whole ++ at_place values.now.origin
+        (run_or_listed values.now.run values.now.listed.now)) result pending.new.items sink.new }
+    ensures flow { S.flow sink.new ≡ flow_after result }
+    ensures refused { OnErr result S.takes_memory }
+{
+    match values.run {
+        Some(run) if line.stages.is_empty() && sink.takes_runs() => {
+            pour_run(line, values, run, pending, rest, room, sink)
+        }
+        _ => pour_lanes(line, values, pending, rest, room, sink),
+    }
+}
+
+/// Gives the sink the integers in a row of an inner stream at once, after the values that wait.
+#[cycle(batches)]
+fn pour_run<S: BatchSink>(
+    line: Pipeline<'_>,
+    values: &InnerItems<'_>,
+    run: Run,
+    pending: &mut Batch,
+    rest: &mut [Batch],
+    room: &mut [i64],
+    sink: &mut S,
+) -> Result<Fed, NoMemory>
+    requires wants { S.flow sink.old ≡ Flow.More }
+    requires room { FitsStages (stages_of line.stages.now) (length room.old) }
+    requires last { line.stages.now ≡ [] }
+    requires run { values.now.run ≡ Some run }
+    ensures poured { (xs whole : List Item) → Holds S.has_taken line.entry xs whole pending.old.items sink.old
+        → Poured S.has_taken line.entry xs (whole ++ at_place values.now.origin
+        (run_or_listed values.now.run values.now.listed.now)) result pending.new.items sink.new }
+    ensures flow { S.flow sink.new ≡ flow_after result }
+    ensures refused { OnErr result S.takes_memory }
+{
+    match make_space(line, 0, pending, rest, room, sink)? {
+        Fed::More => {}
+        stopped => return Ok(stopped),
+    }
+    if sink.accept_run(run) {
+        return Ok(asked(Fed::More, run.count, sink));
+    }
+    pour_lanes(line, values, pending, rest, room, sink)
+}
+
 /// Adds the values of an inner stream to those that wait, and takes them through the stages whenever
 /// the batch is full.
 #[cycle(batches)]
-fn pour<S: BatchSink>(
+fn pour_lanes<S: BatchSink>(
     line: Pipeline<'_>,
     values: &InnerItems<'_>,
     pending: &mut Batch,
@@ -163,7 +224,7 @@ fn pour<S: BatchSink>(
     let count = values.count();
     let mut position = 0;
     while position < count {
-        match make_space(line, pending, rest, room, sink)? {
+        match make_space(line, MOST_WAITING, pending, rest, room, sink)? {
             Fed::More => {}
             stopped => return Ok(stopped),
         }
@@ -174,10 +235,11 @@ fn pour<S: BatchSink>(
     Ok(Fed::More)
 }
 
-/// Takes the values that wait through the stages, if there is no space for another.
+/// Takes the values that wait through the stages, if they are more than these.
 #[cycle(batches)]
 fn make_space<S: BatchSink>(
     line: Pipeline<'_>,
+    most: u64,
     pending: &mut Batch,
     rest: &mut [Batch],
     room: &mut [i64],
@@ -187,17 +249,18 @@ fn make_space<S: BatchSink>(
     requires room { FitsStages (stages_of line.stages.now) (length room.old) }
     ensures poured { (xs whole : List Item) → Holds S.has_taken line.entry xs whole pending.old.items sink.old
         → Poured S.has_taken line.entry xs whole result pending.new.items sink.new }
-    ensures space { result ≡ Ok fed.More → length pending.new.items < 1024 }
+    ensures space { result ≡ Ok fed.More → length pending.new.items ≤ most }
     ensures flow { S.flow sink.new ≡ flow_after result }
     ensures refused { OnErr result S.takes_memory }
 {
-    if pending.count() < LANES as u64 {
+    let waiting = pending.count();
+    if waiting <= most {
         return Ok(Fed::More);
     }
     pending.end_with(End::Done);
     let fed = feed_batch(line, pending, rest, room, sink)?;
     pending.clear();
-    Ok(asked(fed, LANES as u64, sink))
+    Ok(asked(fed, waiting, sink))
 }
 
 /// Takes the values that wait through the stages, after which the walk ends so.

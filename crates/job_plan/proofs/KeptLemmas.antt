@@ -1,7 +1,6 @@
 -- Parts of sorts.
 use Rattle.std.proofs.Common.{◌≡◌, ℕ, ℤ, Bool, true, false, List, Option, refl, sym, ap, ◌∙◌}
 use Rattle.lambda_values.specs.Earlier.{Numbers}
-use Rattle.trace.specs.declared.item.End.{End}
 use Rattle.trace.specs.declared.item.End.TheVariants as end
 use Rattle.trace.specs.Stages.{at_place}
 use Rattle.trace.specs.Trace.{Trace, append, trace}

@@ -4,6 +4,7 @@ ghost use Rattle.batch_eval.specs.Batches.{flagged_values, holds, laid_items};
 ghost use Rattle.std.specs.Prelude.{◌≡◌, ◌<◌, ◌≤◌, ℕ, false, true, List, [], ◌∷◌, length, map, IfOk, IfErr, OnOk};
 ghost use Rattle.std.specs.Prelude.{OnErr};
 ghost use Rattle.lambda_values.specs.Earlier.{Numbers};
+ghost use Rattle.lambda_values.specs.Streams.{run_values};
 ghost use Rattle.trace.specs.Trace.{Trace, trace, append};
 ghost use Rattle.trace.specs.declared.item.End.TheVariants as end;
 ghost use Rattle.lambda_values.specs.declared.item.Item.{Item as item};
@@ -13,7 +14,7 @@ ghost use Rattle.job_plan.specs.declared.part.Part.{Part as any_part};
 
 use batch_eval::{FlaggedLanes, LaneItems};
 use job_routes::SegmentEnd;
-use lambda_values::Env;
+use lambda_values::{Env, Run};
 use trace::{End, Item, NoMemory};
 
 /// The end of a segment, its number as a stage, and the values of the job's names.
@@ -82,6 +83,26 @@ pub(crate) trait EndPart: Drop + Sized {
             → map (λ x. x.value) xs ≡ flagged_values (holds _lanes.entry.set) _lanes.entry.values.now
             _lanes.entry.flags.now (length _lanes.entry.flags.now)
             → EndsFor e stage env (as_part self.old) t
+            → EndsFor e stage env (as_part self.new) (append t (trace xs end.Done)) }
+        ensures open { is_settled (as_part self.new) ≡ false }
+        ensures other { result ≡ false → self.new ≡ self.old }
+        ensures kind { may_search (as_part self.new) ≡ may_search (as_part self.old) }
+        ensures keeps { keeps_items (as_part self.new) ≡ keeps_items (as_part self.old) }
+    {
+        false
+    }
+
+    /// Whether `push_run` adds integers in a row.
+    fn takes_runs(&self) -> bool {
+        false
+    }
+
+    /// Adds integers in a row in constant time, if the end is a fold by an operator that has such a way, and answers
+    /// whether it is.
+    fn push_run(&mut self, _run: Run) -> bool
+        requires { is_settled (as_part self.old) ≡ false }
+        ensures taken { result ≡ true → (e : AbstractEnd) (stage : ℕ) (env : Numbers) (t : Trace) (xs : List item)
+            → map (λ x. x.value) xs ≡ run_values _run → EndsFor e stage env (as_part self.old) t
             → EndsFor e stage env (as_part self.new) (append t (trace xs end.Done)) }
         ensures open { is_settled (as_part self.new) ≡ false }
         ensures other { result ≡ false → self.new ≡ self.old }

@@ -15,7 +15,8 @@ use crate::end_part::{EndPart, LastStage, is_fault};
 use batch_eval::{FlaggedLanes, LaneItems};
 use job_meaning::Answer;
 use job_routes::Fold;
-use prefix_walks::{folded, folded_flagged};
+use lambda_values::Run;
+use prefix_walks::{folded, folded_flagged, folded_run, folds_runs};
 use reduce_ops::Partial;
 use trace::{End, Item, NoMemory};
 
@@ -78,6 +79,20 @@ impl EndPart for FoldPart {
 
     fn push_flagged(&mut self, lanes: FlaggedLanes<'_>) -> bool {
         match folded_flagged(self.partial.op(), self.counts, lanes) {
+            Some(right) => {
+                self.partial = self.partial.merge(right);
+                true
+            }
+            None => false,
+        }
+    }
+
+    fn takes_runs(&self) -> bool {
+        folds_runs(self.partial.op(), self.counts)
+    }
+
+    fn push_run(&mut self, run: Run) -> bool {
+        match folded_run(self.partial.op(), self.counts, run) {
             Some(right) => {
                 self.partial = self.partial.merge(right);
                 true

@@ -6,7 +6,7 @@ ghost use Rattle.job_plan.specs.Stretches.{HasLooked, IsDecided, flow_unless};
 
 use batch_eval::{BatchSink, FlaggedLanes, LaneItems};
 use early_stop::Stop;
-use lambda_values::BoolExpr;
+use lambda_values::{BoolExpr, Run};
 use std::marker::{Brand, PhantomData};
 use trace::{Fed, Flow, Item, LongSink, NoMemory};
 
@@ -106,6 +106,14 @@ impl<P: StartBrand, S: BatchSink + Drop, W: Stop> BatchSink for Looking<'_, P, S
 
     fn accept_flagged(&mut self, lanes: FlaggedLanes<'_>) -> Result<Fed, NoMemory> {
         self.inner.accept_flagged(lanes)
+    }
+
+    fn takes_runs(&self) -> bool {
+        self.inner.takes_runs()
+    }
+
+    fn accept_run(&mut self, run: Run) -> bool {
+        self.inner.accept_run(run)
     }
 
     fn test(&self) -> Option<&BoolExpr> {

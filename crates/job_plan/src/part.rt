@@ -21,7 +21,7 @@ use crate::sorted_end::sorted_walk;
 use batch_eval::{FlaggedLanes, LaneItems};
 use find_ops::FindPart;
 use job_routes::{Outcome, Segment, SegmentEnd};
-use lambda_values::Env;
+use lambda_values::{Env, Run};
 use prefix_walks::PrefixPart;
 use reduce_ops::SumPart;
 use sort_ops::{DistinctPart, SortedPart};
@@ -199,6 +199,14 @@ impl<'a> EndPart for Part<'a> {
 
     fn push_flagged(&mut self, lanes: FlaggedLanes<'_>) -> bool {
         of_any_kind!(self, part => EndPart::push_flagged(part, lanes))
+    }
+
+    fn takes_runs(&self) -> bool {
+        of_any_kind!(self, part => EndPart::takes_runs(part))
+    }
+
+    fn push_run(&mut self, run: Run) -> bool {
+        of_any_kind!(self, part => EndPart::push_run(part, run))
     }
 
     fn end_with(&mut self, ending: End) {

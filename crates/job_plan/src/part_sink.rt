@@ -18,7 +18,7 @@ ghost use Rattle.job_routes.specs.declared.ends.SegmentEnd.TheVariants as ends;
 use crate::end_part::{EndPart, LastStage};
 use crate::part::Part;
 use batch_eval::{BatchSink, FlaggedLanes, LaneItems, accept_each_flagged};
-use lambda_values::BoolExpr;
+use lambda_values::{BoolExpr, Run};
 use std::marker::{Brand, PhantomData};
 use trace::{Fed, Flow, Item, LongSink, NoMemory};
 
@@ -84,6 +84,14 @@ impl<K: EndBrand> BatchSink for PartSink<'_, '_, K> {
             return Ok(Fed::More);
         }
         accept_each_flagged(lanes, self)
+    }
+
+    fn takes_runs(&self) -> bool {
+        self.part.takes_runs()
+    }
+
+    fn accept_run(&mut self, run: Run) -> bool {
+        self.part.push_run(run)
     }
 
     fn test(&self) -> Option<&BoolExpr> {

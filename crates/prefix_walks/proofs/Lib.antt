@@ -6,6 +6,7 @@ pub mod FlaggedFolds
 pub mod KeptLemmas
 pub mod PieceLemmas
 pub mod PlacingLemmas
+pub mod RunFolds
 pub mod ScanLemmas
 pub mod StretchLemmas
 pub mod WindowPositions

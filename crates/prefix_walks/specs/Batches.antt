@@ -1,5 +1,5 @@
 -- Condition: folds of the values of a batch.
-use Rattle.std.specs.Prelude.{ℤ, pos, Bool, true, false, List, [], ◌∷◌, Option, Some, None, fold}
+use Rattle.std.specs.Prelude.{ℕ, zero, suc, ◌+◌, ℤ, pos, Bool, true, false, List, [], ◌∷◌, Option, Some, None, fold}
 use Rattle.lambda_values.specs.declared.item.Item.{Item}
 use Rattle.reduce_ops.specs.Folds.{ones}
 
@@ -17,3 +17,8 @@ folded_values f counts (v ∷ vs) = Some (fold (λ a w. f a (each_one counts w))
 abbrev pub counted_as : Bool → List Item → List Item
 counted_as false xs = xs
 counted_as true xs = ones xs
+
+-- the sum of the natural numbers below n
+abbrev pub total_below : ℕ → ℕ
+total_below zero = 0
+total_below (suc n) = total_below n + n

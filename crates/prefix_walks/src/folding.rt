@@ -1,16 +1,20 @@
 //! Folds of the values of a batch, or of those whose flag is set: one loop, compiled for each operator.
 
 ghost use Rattle.batch_eval.specs.Batches.{flagged_values, holds};
-ghost use Rattle.std.specs.Prelude.{◌≡◌, ◌≤◌, IfNone, IfSome, List, None, Some, fold, length, map, true};
+ghost use Rattle.std.specs.Prelude.{◌≡◌, ◌<◌, ◌≤◌, ◌^◌, IfNone, IfSome, List, None, Some, false, fold, length};
+ghost use Rattle.std.specs.Prelude.{map, pos, true};
 ghost use Rattle.trace.specs.declared.item.End.TheVariants as end;
 ghost use Rattle.lambda_values.specs.declared.item.Item.{Item as item};
 ghost use Rattle.trace.specs.Trace.{trace};
+ghost use Rattle.lambda_values.specs.Streams.{run_values};
+ghost use Rattle.lambda_values.specs.Wrap.{wrap};
 ghost use Rattle.reduce_ops.specs.Operators.{identity_of, value_of};
 ghost use Rattle.reduce_ops.specs.Parts.{StandsFor};
 ghost use Rattle.prefix_scan.specs.Scans.{joined_value};
-ghost use Rattle.prefix_walks.specs.Batches.{counted_as, each_one, folded_values};
+ghost use Rattle.prefix_walks.specs.Batches.{counted_as, each_one, folded_values, total_below};
 
 use batch_eval::FlaggedLanes;
+use lambda_values::Run;
 use reduce_ops::{Op, Partial};
 use trace::{End, Item};
 
@@ -67,6 +71,79 @@ fn fold_from(op: Op, counts: bool, start: i64, values: &[i64]) -> i64
         folded = op.apply(folded, counted_value(counts, *value));
     }
     folded
+}
+
+/// Whether `folded_run` folds by this operator.
+pub fn folds_runs(op: Op, counts: bool) -> bool {
+    match op {
+        Op::Sum => true,
+        Op::Min | Op::Max | Op::First | Op::Last => !counts,
+        _ => false,
+    }
+}
+
+/// The fold of integers in a row, or of a 1 for each of them, in constant time. `None` if the operator has no such way.
+pub fn folded_run(op: Op, counts: bool, run: Run) -> Option<Partial>
+    ensures op { IfSome result (λ right. right.op ≡ op) }
+    ensures ending { IfSome result (λ right. right.end ≡ end.Done) }
+    ensures stands { IfSome result (λ right. (xs : List item) → map (λ x. x.value) xs ≡ run_values run
+        → StandsFor right (trace (counted_as counts xs) end.Done)) }
+{
+    if run.count == 0 {
+        return Some(Partial::none(op, End::Done));
+    }
+    let value = if counts {
+        count_run(op, run)?
+    } else {
+        fold_run(op, run)?
+    };
+    Some(Partial::of(op, Item { origin: 0, value }))
+}
+
+/// The fold of a 1 for each of some integers in a row.
+fn count_run(op: Op, run: Run) -> Option<i64>
+    requires some { 0 < run.count }
+    ensures { IfSome result (λ value. Some value ≡ folded_values (value_of op) true (run_values run)) }
+{
+    match op {
+        Op::Sum => Some(run.count as i64),
+        _ => None,
+    }
+}
+
+/// The fold of some integers in a row.
+fn fold_run(op: Op, run: Run) -> Option<i64>
+    requires some { 0 < run.count }
+    ensures { IfSome result (λ value. Some value ≡ folded_values (value_of op) false (run_values run)) }
+{
+    match op {
+        Op::Sum => Some(sum_of_run(run)),
+        Op::Min | Op::First => Some(run.first),
+        Op::Max | Op::Last => Some(run.first + (run.count - 1) as i64),
+        _ => None,
+    }
+}
+
+/// The sum of some integers in a row: the first one for each of them, and 0, 1, 2 and so on.
+fn sum_of_run(run: Run) -> i64
+    requires some { 0 < run.count }
+    ensures { Some result ≡ folded_values (value_of Op.Sum) false (run_values run) }
+{
+    let firsts = run.first.wrapping_mul(run.count as i64);
+    firsts.wrapping_add(sum_below(run.count))
+}
+
+/// The sum of the natural numbers below this one. Of two factors the even one is halved, so that no bit is lost.
+fn sum_below(count: u64) -> i64
+    requires some { 0 < count }
+    requires few { count ≤ 2 ^ 62 }
+    ensures { result ≡ wrap (pos (total_below count)) }
+{
+    if count % 2 == 0 {
+        ((count / 2) as i64).wrapping_mul((count - 1) as i64)
+    } else {
+        (count as i64).wrapping_mul(((count - 1) / 2) as i64)
+    }
 }
 
 /// The fold of the values whose flag is set, or of a 1 for each of them. `None` if the operator has no identity, which

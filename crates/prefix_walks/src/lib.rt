@@ -38,7 +38,7 @@ mod window;
 mod worked;
 
 pub use cheap_stages::CheapStages;
-pub use folding::{folded, folded_flagged};
+pub use folding::{folded, folded_flagged, folded_run, folds_runs};
 pub use given::GivenWalk;
 pub use laws::pieces_join;
 pub use pieces::ItemPiece;

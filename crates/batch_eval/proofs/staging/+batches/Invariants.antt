@@ -10,28 +10,34 @@ use Rattle.batch_eval.specs.Rooms.{FitsStages}
 use Rattle.batch_eval.proofs.staging.+batches.Given as goal
 
 abbrev pub decreases-feed_batch : goal.decreases-feed_batch
-decreases-feed_batch g l = 4 * length l.line.stages.now
+decreases-feed_batch g l = 6 * length l.line.stages.now
 
 abbrev pub decreases-make_space : goal.decreases-make_space
-decreases-make_space g l = 4 * length l.line.stages.now + 1
+decreases-make_space g l = 6 * length l.line.stages.now + 1
 
 abbrev pub decreases-finish : goal.decreases-finish
-decreases-finish g l = 4 * length l.line.stages.now + 1
+decreases-finish g l = 6 * length l.line.stages.now + 1
+
+abbrev pub decreases-pour_lanes : goal.decreases-pour_lanes
+decreases-pour_lanes g l = 6 * length l.line.stages.now + 2
+
+abbrev pub decreases-pour_run : goal.decreases-pour_run
+decreases-pour_run g l = 6 * length l.line.stages.now + 3
 
 abbrev pub decreases-pour : goal.decreases-pour
-decreases-pour g l = 4 * length l.line.stages.now + 2
+decreases-pour g l = 6 * length l.line.stages.now + 4
 
 abbrev pub decreases-feed_inner : goal.decreases-feed_inner
-decreases-feed_inner g l = 4 * length l.stage.later.stages.now + 3
+decreases-feed_inner g l = 6 * length l.stage.later.stages.now + 5
 
 abbrev pub decreases-feed_inner-loop-position : goal.decreases-feed_inner-loop-position
 decreases-feed_inner-loop-position g l = l.count - l.position
 
-abbrev pub decreases-pour-loop-position : goal.decreases-pour-loop-position
-decreases-pour-loop-position g l = l.count - l.position
+abbrev pub decreases-pour_lanes-loop-position : goal.decreases-pour_lanes-loop-position
+decreases-pour_lanes-loop-position g l = l.count - l.position
 
-abbrev pub invariant-pour-loop-position : goal.invariant-pour-loop-position
-invariant-pour-loop-position g l =
+abbrev pub invariant-pour_lanes-loop-position : goal.invariant-pour_lanes-loop-position
+invariant-pour_lanes-loop-position g l =
     record {
       within : l.position ≤ l.count;
       room : FitsStages (stages_of l.line.stages.now) (length l.room);
