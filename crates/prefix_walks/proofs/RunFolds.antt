@@ -85,7 +85,7 @@ sum_is v (suc n) =
     let rest : sum_from (v +ℤ pos 1) n ≡ (p +ℤ pos n) +ℤ pos (total_below n) =
     sum_is (v +ℤ pos 1) n ∙ ap (λ (z : ℤ). z +ℤ pos (total_below n)) (times_more n v) in
     let turned : v +ℤ ((p +ℤ pos n) +ℤ pos (total_below n)) ≡ (p +ℤ v) +ℤ pos (total_below n + n) =
-        omega (arith, ints) in
+    omega (arith, ints) in
     ap (λ (z : ℤ). v +ℤ z) rest ∙ turned ∙ ap (λ (z : ℤ). z +ℤ pos (total_below n + n)) (sym (suc_ℤ-*ℤ (pos n) v))
 
 pub sum_folded : (v : ℤ) (n : ℕ) → FitsSigned w64 v → 0 < n
