@@ -18,7 +18,7 @@ use trace::End;
 pub struct Given<'a, 'c> {
     pub(crate) walk: GivenWalk<'a>,
     pub(crate) sources: &'a [PlainSource<'c>],
-    /// Positions of the sources, in place of the walk.
+    /// Positions of the sources; then the walk has nothing.
     pub(crate) window: Option<Window>,
 }
 

@@ -27,7 +27,10 @@ const CASES: &str = "\
 8 1000 4096 8 8 1000 => s = range(0, 4096).sum() => 8386560
 1 1000 4096 4 4 4096 => s = range(0, 4096).map(x -> x).skip(96).sum() => 8382000
 8 1000 4096 4 4 4096 => s = range(0, 4096).map(x -> x).skip(96).sum() => 8382000
-1 1000 4096 1 1 4096 => s = range(0, 4096).map(x -> 9 / x).skip(96).sum() => fault divide-by-zero stage 1 item 0
+1 1000 4096 2 2 4096 => s = range(0, 4096).map(x -> 9 / x).skip(96).sum() => fault divide-by-zero stage 1 item 0
+8 1000 4096 5 5 4096 => s = range(0, 4096).filter(x -> x >= 0).skip(96).sum() => 8382000
+1 1000 4096 5 12 1000 => s = range(0, 4096).filter(x -> x > 9).dropWhile(x -> x < 96).sum() => 8382000
+8 1000 4096 2 9 1000 => s = range(0, 4096).filter(x -> x > 9).takeWhile(x -> x < 99).sum() => 4806
 8 1000 4096 4 4 1000 => s = range(0, 4096).skip(96).sum() => 8382000
 1 1000 4096 1 1 4096 => s = range(0, 4096).dropWhile(x -> x < 96).skip(3000).sum() => 3595500
 1 1000 4096 4 4 4096 => s = range(0, 4096).map(x -> 9 / (x - 4050)).limit(4000).sum() => 0

@@ -68,22 +68,32 @@ fn has_route(alloc: Global, job: &JobPlan, route: &str) -> Result<bool, AllocErr
 
 /// Jobs, each with its answer, and after it for each leg the positions that it goes over, the number of slices, of
 /// stages after them, and of the first of these; worked out by hand. Slices that come before the other stages of a leg,
-/// or after maps alone, select positions. Nothing is walked before `limit(0)`.
+/// or after maps alone, select positions. A leg before one with another slice looks for the place where it cuts.
+/// Nothing is walked before `limit(0)`.
 const WALKED: &str = "\
 range(0, 9).sum() => 36; from 0, 0 slices, 0 at 1
 range(0, 9).skip(1).sum() => 36; from 1, 0 slices, 0 at 2
 range(0, 9).skip(1).limit(2).map(x -> x).sum() => 3; from 1 to 3, 0 slices, 1 at 3
-range(0, 9).limit(2).skip(0).map(x -> x).skip(1).sum() => 1; from 1 to 2, 0 slices, 2 at 3
-range(0, 9).map(x -> x).skip(1).sum() => 36; from 1, 0 slices, 2 at 1
-range(0, 9).map(x -> x / -7).skip(1).sum() => -2; from 1, 0 slices, 2 at 1
+range(0, 9).limit(2).skip(0).map(x -> x).skip(1).sum() => 1; from 1 to 2, 0 slices, 1 at 4
+range(0, 9).map(x -> x).skip(1).sum() => 36; from 1, 0 slices, 1 at 2
+range(0, 9).map(x -> x / -7).skip(1).sum() => -2; from 1, 0 slices, 1 at 2
 range(0, 9).limit(1).limit(0).skip(1).sum() => 0; from 0 to 1, 2 slices, 0 at 4
 range(0, 9).skip(1).takeWhile(x -> true).skip(1).sum() => 35; from 1, 2 slices, 0 at 4
 range(0, 9).dropWhile(x -> true).skip(1).sum() => 0; from 0, 2 slices, 0 at 3
-range(0, 9).filter(x -> x > 2).skip(1).map(x -> x).sum() => 30; from 0, 1 slices, 1 at 3
+range(0, 9).filter(x -> x > 2).skip(1).map(x -> x).sum() => 30; from 0, 1 slices, 1 at 3; \
+from 0, 0 slices, 2 at 2
+range(0, 9).dropWhile(x -> x < 4).sum() => 30; from 0, 0 slices, 2 at 1; from 0, 0 slices, 0 at 2
+range(0, 9).takeWhile(x -> x < 4).sum() => 6; from 0, 0 slices, 2 at 1; from 0, 0 slices, 0 at 2
+range(0, 9).takeWhile(x -> 4 / (x - 9) > -2).sum() => 21; from 0, 0 slices, 2 at 1; from 0, 0 slices, 1 at 1
+range(0, 9).takeWhile(x -> x < 4).findFirst() => OptionalLong[0]; from 0, 1 slices, 0 at 2
+range(0, 9).flatMap(x -> of(x)).skip(1).sum() => 36; from 0, 1 slices, 0 at 3
+range(0, 9).limit(7).filter(x -> x > 2).dropWhile(x -> x < 5).sum() => 11; \
+from 0 to 7, 0 slices, 3 at 2; from 0, 0 slices, 1 at 3
 of(5, 3, 8).skip(1).map(x -> 24 / x).toArray() => [8, 3]; from 1, 0 slices, 1 at 2
-of(5, 3, 0).map(x -> 24 / x).skip(1).toArray() => fault divide-by-zero stage 1 item 2; from 0, 1 slices, 0 at 3
+of(5, 3, 0).map(x -> 24 / x).skip(1).toArray() => fault divide-by-zero stage 1 item 2; from 0, 1 slices, 1 at 3; \
+from 0, 0 slices, 2 at 1
 range(0, 9).skip(9223372036854775807).skip(9223372036854775807).skip(2).sum() => 0; \
-from 18446744073709551614, 1 slices, 0 at 4
+from 18446744073709551614, 1 slices, 1 at 4; from 0, 0 slices, 0 at 4
 of(3, 0).prefix(sum).map(x -> 6 / (x - 3)).findFirst() => fault divide-by-zero stage 2 item 0; \
 from 0, 0 slices, 0 at 1; from 0, 0 slices, 1 at 2
 range(0, 9).prefix(sum).skip(2).prefix(max).limit(2).sum() => 9; \
