@@ -3,7 +3,7 @@ use denote.Param.{param}
 use mir.Syntax.{static}
 use denote.Param.Send.{arg_send, arg_sync, param_send, param_sync}
 use Rattle.job_plan.specs.contracts.part.Part as parts
-use Rattle.prefix_walks.specs.contracts.given.GivenWalk as given_walks
+use Rattle.job_plan.specs.contracts.given.Given as given_walks
 use Rattle.job_table.specs.contracts.planned.PlanJobs as plan_jobs
 use Rattle.job_table.proofs.SharedPlanLemmas.{jobs_send, jobs_sync, part_send, source_send, source_sync}
 use Rattle.test_engine.proofs.driven.plan_found_as.Goals as goal
@@ -23,8 +23,10 @@ found-requires-send-S-Part g c = λ κs within. param_send 2 _ (arg_send _ no (p
 
 pub found-requires-send-S-Source : goal.found-requires-send-S-Source
 found-requires-send-S-Source g c = λ κs within. param_send 3 _
-    (arg_send _ no (given_walks.the_row (record { mir = static; lft = _ })) (source_send _))
+    (arg_send _ no (given_walks.the_row (record { mir = static; lft = _ }) (record { mir = static; lft = _ }))
+    (source_send _ _))
 
 pub found-requires-sync-S-Source : goal.found-requires-sync-S-Source
 found-requires-sync-S-Source g c = λ κs within. param_sync 3 _
-    (arg_sync _ no (given_walks.the_row (record { mir = static; lft = _ })) (source_sync _))
+    (arg_sync _ no (given_walks.the_row (record { mir = static; lft = _ }) (record { mir = static; lft = _ }))
+    (source_sync _ _))
