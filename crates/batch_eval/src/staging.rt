@@ -221,6 +221,8 @@ fn pour_lanes<S: BatchSink>(
     ensures flow { S.flow sink.new ≡ flow_after result }
     ensures refused { OnErr result S.takes_memory }
 {
+    // A copy stays in registers: the loop that adds values would read them through the reference for each lane.
+    let values = *values;
     let count = values.count();
     let mut position = 0;
     while position < count {
@@ -229,7 +231,7 @@ fn pour_lanes<S: BatchSink>(
             stopped => return Ok(stopped),
         }
         let taken = (LANES as u64 - pending.count()).min(count - position);
-        pending.add(values, position, taken);
+        pending.add(&values, position, taken);
         position += taken;
     }
     Ok(Fed::More)
