@@ -1,5 +1,5 @@
 -- The lanes that pass, moved to the front one after the other.
-use Rattle.std.proofs.Common.{◌≡◌, ℕ, ◌+◌, ◌<◌, ◌≤◌, Bool, true, false, List, [], ◌∷◌, ◌++◌, length, get_or}
+use Rattle.std.proofs.Common.{◌≡◌, ℕ, zero, suc, ◌+◌, ◌<◌, ◌≤◌, Bool, true, false, List, [], ◌∷◌, ◌++◌, length, get_or}
 use Rattle.std.proofs.Common.{if◌then◌else◌, refl, sym, ap, subst, ◌∙◌, arith, add-one, length-append}
 use Rattle.std.proofs.lemmas.List.{append-nil, get_or_append_left, get_or_at, get_or-set_same, get_or-set_other}
 use lib.ListN.{set}
@@ -12,6 +12,13 @@ one_if b n = if b then n ∷ [] else []
 
 picked_more : (p : ℕ → Bool) (i : ℕ) (b : Bool) → b ≡ p i → picked p (i + 1) ≡ picked p i ++ one_if b i
 picked_more p i b is = rw (add-one, is) refl
+
+-- no lane passes
+pub none_picked : (p : ℕ → Bool) (n : ℕ) → ((k : ℕ) → k < n → p k ≡ false) → length (picked p n) ≡ 0
+none_picked p zero unset = refl
+none_picked p (suc n) unset =
+    rw (unset n (omega arith)) (ap length (append-nil (picked p n))
+    ∙ none_picked p n (λ k below. unset k (omega (arith, below))))
 
 -- how many lanes have passed
 pub kept_set : (p : ℕ → Bool) (i kept : ℕ) (b : Bool) → b ≡ p i → b ≡ true → kept ≡ length (picked p i)

@@ -1,7 +1,7 @@
 -- Batches whose items are those of the lanes whose flag is set.
-use Rattle.std.proofs.Common.{◌≡◌, ◌==◌, ℕ, zero, suc, ◌<◌, ◌≤◌, ℤ, pos, Bool, true, false, List, [], ◌∷◌, ◌++◌, length}
+use Rattle.std.proofs.Common.{◌≡◌, ◌==◌, ◌&&◌, ℕ, zero, suc, ◌<◌, ◌≤◌, ℤ, pos, Bool, true, false, List, [], ◌∷◌, ◌++◌}
 use Rattle.std.proofs.Common.{get_or, take, Option, None, Some, Result, Ok, Err, if◌then◌else◌, refl, sym, ap, subst}
-use Rattle.std.proofs.Common.{◌∙◌, arith, length-append}
+use Rattle.std.proofs.Common.{◌∙◌, arith, length, length-append}
 use Rattle.std.proofs.lemmas.Bool.Decides.{Decides-eqb}
 use Rattle.trace.specs.declared.stage.Stage.{Stage}
 use Rattle.lambda_values.specs.declared.fault.FaultKind.{FaultKind}
@@ -12,9 +12,11 @@ use Rattle.lambda_values.specs.declared.item.Item.{Item}
 use Rattle.trace.specs.declared.item.End.{End}
 use Rattle.trace.specs.declared.item.End.TheVariants as end
 use Rattle.trace.specs.Trace.{Trace, trace, append, each}
-use Rattle.trace.specs.Stages.{filter, image, map, of_item}
+use Rattle.trace.specs.Stages.{filter, image, map, of_item, passed}
+use Rattle.lambda_values.specs.declared.operator.Connective.TheVariants as connective
+use Rattle.batch_eval.specs.Choices.{connected_flag}
 use Rattle.batch_eval.specs.declared.reached.Reached.{Reached}
-use Rattle.batch_eval.specs.Lanes.{at, flag_of, flagged, is_set, Reaches}
+use Rattle.batch_eval.specs.Lanes.{at, flag_of, flagged, is_set, Reaches, StopsAt}
 use Rattle.batch_eval.specs.Batches.{end_after, flagged_items, flagged_walk, gathered, item_at, lanes, origin_at}
 use Rattle.batch_eval.specs.Batches.{passing, set_items}
 use Rattle.batch_eval.proofs.FlaggedLemmas.{flags_cut, set_flag}
@@ -122,23 +124,68 @@ module _ (live : ℕ) (start : Option ℕ) (origins : List ℕ) (values flags : 
         subst (λ (u : Trace). flagged_walk flags (trace (lanes live new) e) ≡ each f (set_items flags u.items) u.ending)
         seen (rw (set_lanes flags live new, set_lanes flags live lane) (sym one))
 
-    -- after a `filter` of all lanes
+    -- after a `filter` of all lanes, by whether each of them passes
+    pub filter_known : (test : Truth) (passes : ℕ → Bool) (new_flags : List ℤ) → ((k : ℕ) → k < live
+        → passed stage (lane k) (truth_value test (lane k) env) ≡ trace (kept_if (passes k) (lane k)) end.Done)
+        → ((k : ℕ) → k < live → is_set (at new_flags k) ≡ (if passes k then is_set (at flags k) else false))
+        → trace (lanes live lane) e ≡ t → flagged_walk new_flags (trace (lanes live lane) e)
+        ≡ each (of_item stage (filter test) env) (set_items flags t.items) t.ending
+    filter_known test passes new_flags known new seen =
+        let f : Item → Trace = of_item stage (filter test) env in
+        let one = each_gathered f (λ k. kept_if (is_set (at flags k)) (lane k))
+        (λ k. kept_if (is_set (at new_flags k)) (lane k)) live
+        (λ k below e. kept_both f (lane k) (is_set (at flags k)) (passes k) e (known k below)
+        ∙ ap (λ (b : Bool). trace (kept_if b (lane k)) e) (sym (new k below))) e in
+        subst (λ (u : Trace). flagged_walk new_flags (trace (lanes live lane) e)
+        ≡ each f (set_items flags u.items) u.ending) seen
+        (rw (set_lanes flags live lane, set_lanes new_flags live lane) (sym one))
+
+    -- by flags for the lanes that pass
     pub filter_all : (test : Truth) (passes new_flags : List ℤ)
         → Reaches (λ k. flagged (truth_value test (lane k) env)) (at passes) live r → live ≤ r.live
         → ((k : ℕ) → k < live → at new_flags k ≡ (if is_set (at passes k) then at flags k else pos 0))
         → trace (lanes live lane) e ≡ t → flagged_walk new_flags (trace (lanes live lane) e)
         ≡ each (of_item stage (filter test) env) (set_items flags t.items) t.ending
-    filter_all test passes new_flags reaches all new seen =
-        let f : Item → Trace = of_item stage (filter test) env in
-        let one = each_gathered f (λ k. kept_if (is_set (at flags k)) (lane k))
-        (λ k. kept_if (is_set (at new_flags k)) (lane k)) live
-        (λ k below e. kept_both f (lane k) (is_set (at flags k)) (is_set (at passes k)) e
-        (passed_flag stage (lane k) (truth_value test (lane k) env) (at passes k) (reaches.values k (omega arith)))
-        ∙ ap (λ (b : Bool). trace (kept_if b (lane k)) e)
-        (sym (ap is_set (new k below) ∙ cleared (is_set (at passes k)) (at flags k)))) e in
-        subst (λ (u : Trace). flagged_walk new_flags (trace (lanes live lane) e)
-        ≡ each f (set_items flags u.items) u.ending) seen
-        (rw (set_lanes flags live lane, set_lanes new_flags live lane) (sym one))
+    filter_all test passes new_flags reaches all new =
+        filter_known test (λ k. is_set (at passes k)) new_flags
+        (λ k below. passed_flag stage (lane k) (truth_value test (lane k) env) (at passes k)
+        (reaches.values k (omega arith)))
+        (λ k below. ap is_set (new k below) ∙ cleared (is_set (at passes k)) (at flags k))
+
+    -- by flags that are connected with whether each lane passes
+    pub filter_connected : (test : Truth) (passes : ℕ → Bool) (new_flags : List ℤ)
+        → ((k : ℕ) → k < live → truth_value test (lane k) env ≡ Ok (passes k))
+        → ((k : ℕ) → k < live → at new_flags k ≡ connected_flag connective.And (at flags k) (passes k))
+        → trace (lanes live lane) e ≡ t → flagged_walk new_flags (trace (lanes live lane) e)
+        ≡ each (of_item stage (filter test) env) (set_items flags t.items) t.ending
+    filter_connected test passes new_flags known new =
+        filter_known test passes new_flags
+        (λ k below. ap (passed stage (lane k)) (known k below) ∙ passed_known (passes k) (lane k))
+        (λ k below. ap is_set (new k below) ∙ both_set (is_set (at flags k)) (passes k))
+      where
+        passed_known : (b : Bool) (x : Item) → passed stage x (Ok b) ≡ trace (kept_if b x) end.Done
+        passed_known true x = refl
+        passed_known false x = refl
+
+        both_set : (b c : Bool) → is_set (flag_of (b && c)) ≡ (if c then b else false)
+        both_set true true = refl
+        both_set true false = refl
+        both_set false true = refl
+        both_set false false = refl
+
+-- flags that are connected with booleans have no fault
+pub connected_everywhere : (flags : ℕ → ℤ) (passes : ℕ → Bool) (register : ℕ → ℤ) (n : ℕ) (r : Reached)
+    → Reaches (λ k. Ok (connected_flag connective.And (flags k) (passes k))) register n r → (k : ℕ) → k < n
+    → register k ≡ connected_flag connective.And (flags k) (passes k)
+connected_everywhere flags passes register n r reaches k below =
+    same (reaches.values k (omega (arith, below, all r.live r.fault reaches.stop))) where
+      same : {z w : ℤ} → ◌≡◌ {A = Result ℤ FaultKind} (Ok z) (Ok w) → w ≡ z
+      same e = cc
+
+      all : (live : ℕ) (fault : Option FaultKind)
+          → StopsAt (λ k. Ok (connected_flag connective.And (flags k) (passes k))) n live fault → n ≤ live
+      all live None stops = omega (arith, stops)
+      all live (Some kind) stops = cc
 
 -- one more flag, for one more item
 set_last : (fs : List ℤ) (xs : List Item) (f : ℤ) (x : Item) → length fs ≡ length xs

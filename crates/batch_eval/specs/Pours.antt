@@ -6,9 +6,16 @@ use Rattle.trace.specs.declared.item.End.TheVariants as end
 use Rattle.trace.specs.declared.feeding.Fed.{Fed}
 use Rattle.trace.specs.declared.feeding.Fed.TheVariants as fed
 use Rattle.trace.specs.Trace.{trace}
+use Rattle.lambda_values.specs.Streams.{run_or_listed}
 use Rattle.trace.specs.Sinks.{IsFed}
+use Rattle.trace.specs.Stages.{at_place}
+use Rattle.trace.specs.declared.source.InnerItems.{InnerItems}
 use Rattle.batch_eval.specs.declared.pipeline.Pipeline.{Pipeline}
 use Rattle.batch_eval.specs.Pipelines.{piped}
+
+-- the items of an inner stream
+abbrev pub inner_items : InnerItems → List Item
+inner_items source = at_place source.origin (run_or_listed source.run source.listed.now)
 
 -- all of these items were taken through the stages, but for the last ones, which wait
 abbrev pub Holds : {S : Type 0} → (S → List Item → Type 0) → Pipeline → List Item → List Item → List Item → S → Type 0

@@ -4,6 +4,7 @@ ghost use Rattle.batch_eval.specs.Batches.{CountsUp, StopsInside, end_after, ite
 ghost use Rattle.batch_eval.specs.BatchItems.{laid};
 ghost use Rattle.batch_eval.specs.Batches.{origin_at};
 ghost use Rattle.batch_eval.specs.Lanes.{at};
+ghost use Rattle.batch_eval.specs.Pours.{inner_items};
 ghost use Rattle.batch_eval.specs.Rooms.{Fits};
 ghost use Rattle.lambda_values.specs.Term.{long_of};
 ghost use Rattle.std.specs.Prelude.{◌≡◌, ◌+◌, ◌<◌, ◌≤◌, ◌^◌, List, [], ◌++◌, IfOk, IsTrue, None, Some, length, map};
@@ -16,7 +17,7 @@ ghost use Rattle.lambda_values.specs.declared.item.Item.{Item};
 
 use crate::counted::eval_counted;
 use crate::lane_items::LaneItems;
-use crate::listing::{copy_front, list_items, list_numbers, list_places};
+use crate::listing::{copy_front, list_numbers, list_places, list_values};
 use crate::pipeline::Pipeline;
 use crate::reached::Reached;
 use crate::register::{Inputs, LANES, eval_long};
@@ -25,7 +26,7 @@ use lambda_values::LongExpr;
 use std::alloc::Global;
 use std::marker::Model;
 use std::mem;
-use trace::{End, Fault, Item, NoMemory, RangeItems, SourceItems};
+use trace::{End, Fault, InnerItems, Item, NoMemory, RangeItems, SourceItems};
 
 /// Up to 1,024 items in registers, and how the walk ends after them.
 ///
@@ -242,19 +243,19 @@ impl Batch {
         self.end = end;
     }
 
-    /// Adds items of a source, from a position on, after those that are there.
-    pub(crate) fn add<I: SourceItems>(&mut self, source: &I, position: u64, count: u64)
-        requires within { position + count ≤ length (I.items source.now) }
-        requires bound { length (I.items source.now) < 2 ^ 64 }
+    /// Adds values of an inner stream, from a position on, after the items that are there.
+    pub(crate) fn add(&mut self, source: &InnerItems<'_>, position: u64, count: u64)
+        requires within { position + count ≤ length (inner_items source.now) }
+        requires bound { length (inner_items source.now) < 2 ^ 64 }
         requires space { length self.old.items + count ≤ 1024 }
         ensures items { (part : List Item) × (self.new.items ≡ self.old.items ++ part)
-            × (take (position + count) (I.items source.now) ≡ take position (I.items source.now) ++ part) }
+            × (take (position + count) (inner_items source.now) ≡ take position (inner_items source.now) ++ part) }
         ensures ending { self.new.ending ≡ self.old.ending }
     {
         let count = count as usize;
         list_places(self.start, self.live, &mut self.origins);
         self.start = None;
-        list_items(
+        list_values(
             source,
             position,
             self.live,

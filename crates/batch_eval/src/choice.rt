@@ -19,13 +19,19 @@ use crate::register::{Inputs, LANES, Operand, eval_bool, eval_branch, eval_opera
 use crate::rows::{Rows, gather_rows};
 use lambda_values::BoolExpr;
 
-/// Puts `condition ? a : b` into a register, up to its first fault. Where `a` and
-/// `b` are cheap and have no fault, both are evaluated at all lanes.
+/// The operands that a condition chooses from.
+#[derive(Clone, Copy)]
+pub(crate) struct Either<'a> {
+    pub(crate) chosen: Operand<'a>,
+    pub(crate) other: Operand<'a>,
+}
+
+/// Puts what a condition chooses into a register, up to its first fault. Where both operands are cheap and have no
+/// fault, they are evaluated at all lanes.
 #[cycle(register)]
 pub(crate) fn eval_chosen(
     condition: &BoolExpr,
-    a: Operand<'_>,
-    b: Operand<'_>,
+    either: Either<'_>,
     inputs: Inputs<'_, '_>,
     out: &mut [i64],
     room: &mut [i64],
@@ -34,11 +40,11 @@ pub(crate) fn eval_chosen(
     requires xs { inputs.live ≤ length inputs.xs.now }
     requires rows { HasRows inputs.rows inputs.live }
     requires out { inputs.live ≤ length out.old }
-    requires room { FitsChosen (truth_of condition.now) a b (length room.old) }
+    requires room { FitsChosen (truth_of condition.now) either.chosen either.other (length room.old) }
     ensures { Reaches (at_each inputs.entry (λ x env. chosen_value (truth_value (truth_of condition.now) x env)
-        (operand_value a.entry x env) (operand_value b.entry x env))) (at out.new) inputs.entry.live result }
+        (operand_value either.entry.chosen x env) (operand_value either.entry.other x env))) (at out.new) inputs.entry.live result }
 {
-    if eval_tested(condition, a, b, inputs, out, room) {
+    if eval_tested(condition, either, inputs, out, room) {
         return all(inputs.live);
     }
     let (flags, rest) = room.split_at_mut(LANES);
@@ -47,19 +53,18 @@ pub(crate) fn eval_chosen(
         live: tested.live,
         ..inputs
     };
-    if eval_both(flags, NumberTest::is_set(), a, b, valid, out, rest) {
+    if eval_both(flags, NumberTest::is_set(), either, valid, out, rest) {
         return all(tested.live).after(tested);
     }
-    eval_parted(flags, a, b, valid, out, rest).after(tested)
+    eval_parted(flags, either, valid, out, rest).after(tested)
 }
 
-/// Puts `condition ? a : b` into a register, if the condition compares numbers where they lie with a number, and `a`
-/// and `b` are cheap and have a value at each lane; else answers false. It writes no flags.
+/// Puts what a condition chooses into a register, if the condition compares numbers where they lie with a number, and
+/// both operands are cheap and have a value at each lane; else answers false. It writes no flags.
 #[cycle(register)]
 fn eval_tested(
     condition: &BoolExpr,
-    a: Operand<'_>,
-    b: Operand<'_>,
+    either: Either<'_>,
     inputs: Inputs<'_, '_>,
     out: &mut [i64],
     room: &mut [i64],
@@ -68,10 +73,10 @@ fn eval_tested(
     requires xs { inputs.live ≤ length inputs.xs.now }
     requires rows { HasRows inputs.rows inputs.live }
     requires out { inputs.live ≤ length out.old }
-    requires room { FitsChosen (truth_of condition.now) a b (length room.old) }
+    requires room { FitsChosen (truth_of condition.now) either.chosen either.other (length room.old) }
     ensures { IsTrue result → (k : ℕ) → k < inputs.entry.live
         → chosen_value (at_each inputs.entry (truth_value (truth_of condition.now)) k)
-        (at_each inputs.entry (operand_value a.entry) k) (at_each inputs.entry (operand_value b.entry) k)
+        (at_each inputs.entry (operand_value either.entry.chosen) k) (at_each inputs.entry (operand_value either.entry.other) k)
         ≡ Ok (at out.new k) }
 {
     let Some(test) = lane_test(condition, inputs) else {
@@ -81,7 +86,7 @@ fn eval_tested(
         return false;
     };
     let (_, rest) = room.split_at_mut(LANES);
-    eval_both(test.xs, test.set, a, b, inputs, out, rest)
+    eval_both(test.xs, test.set, either, inputs, out, rest)
 }
 
 /// Puts the operand that each flag chooses into a register, up to the first fault. Each operand is evaluated only at
@@ -89,8 +94,7 @@ fn eval_tested(
 #[cycle(register)]
 fn eval_parted(
     flags: &[i64],
-    a: Operand<'_>,
-    b: Operand<'_>,
+    either: Either<'_>,
     inputs: Inputs<'_, '_>,
     out: &mut [i64],
     room: &mut [i64],
@@ -100,22 +104,22 @@ fn eval_parted(
     requires xs { inputs.live ≤ length inputs.xs.now }
     requires rows { HasRows inputs.rows inputs.live }
     requires out { inputs.live ≤ length out.old }
-    requires room { FitsParted a b (length room.old) }
-    ensures { Reaches (λ k. by_flag (at flags.now k) (at_each inputs.entry (operand_value a.entry) k)
-        (at_each inputs.entry (operand_value b.entry) k)) (at out.new) inputs.entry.live result }
+    requires room { FitsParted either.chosen either.other (length room.old) }
+    ensures { Reaches (λ k. by_flag (at flags.now k) (at_each inputs.entry (operand_value either.entry.chosen) k)
+        (at_each inputs.entry (operand_value either.entry.other) k)) (at out.new) inputs.entry.live result }
 {
     let (items, rest) = room.split_at_mut(LANES);
     let (ones, rest) = rest.split_at_mut(LANES);
     let (others, rest) = rest.split_at_mut(LANES);
     let Inputs { xs, live, rows, .. } = inputs;
     if all_flags(flags, true, live) {
-        return eval_operand(a, inputs, out, rest);
+        return eval_operand(either.chosen, inputs, out, rest);
     }
     if all_flags(flags, false, live) {
-        return eval_operand(b, inputs, out, rest);
+        return eval_operand(either.other, inputs, out, rest);
     }
     let count = gather(flags, true, live, xs, items);
-    gather_rows(a, flags, true, live, rows, out);
+    gather_rows(either.chosen, flags, true, live, rows, out);
     let moved = Rows::Moved(out);
     let chosen = Inputs {
         xs: items,
@@ -123,9 +127,9 @@ fn eval_parted(
         rows: moved,
         ..inputs
     };
-    let first = eval_operand(a, chosen, ones, rest);
+    let first = eval_operand(either.chosen, chosen, ones, rest);
     let count = gather(flags, false, live, xs, items);
-    gather_rows(b, flags, false, live, rows, out);
+    gather_rows(either.other, flags, false, live, rows, out);
     let moved = Rows::Moved(out);
     let other = Inputs {
         xs: items,
@@ -133,7 +137,7 @@ fn eval_parted(
         rows: moved,
         ..inputs
     };
-    let second = eval_operand(b, other, others, rest);
+    let second = eval_operand(either.other, other, others, rest);
     let ones = Side {
         values: ones,
         reached: first,
@@ -151,8 +155,7 @@ fn eval_parted(
 fn eval_both(
     xs: &[i64],
     set: NumberTest,
-    a: Operand<'_>,
-    b: Operand<'_>,
+    either: Either<'_>,
     inputs: Inputs<'_, '_>,
     out: &mut [i64],
     room: &mut [i64],
@@ -162,18 +165,18 @@ fn eval_both(
     requires xs { inputs.live ≤ length inputs.xs.now }
     requires rows { HasRows inputs.rows inputs.live }
     requires out { inputs.live ≤ length out.old }
-    requires room { FitsParted a b (length room.old) }
+    requires room { FitsParted either.chosen either.other (length room.old) }
     ensures { IsTrue result → (k : ℕ) → k < inputs.entry.live
-        → chosen (holds set (at xs.now k)) (at_each inputs.entry (operand_value a.entry) k)
-        (at_each inputs.entry (operand_value b.entry) k) ≡ Ok (at out.new k) }
+        → chosen (holds set (at xs.now k)) (at_each inputs.entry (operand_value either.entry.chosen) k)
+        (at_each inputs.entry (operand_value either.entry.other) k) ≡ Ok (at out.new k) }
 {
-    if !is_cheap(a) || !is_cheap(b) {
+    if !is_cheap(either.chosen) || !is_cheap(either.other) {
         return false;
     }
     let (ones, rest) = room.split_at_mut(LANES);
     let (others, rest) = rest.split_at_mut(2 * LANES);
-    let (one, first) = eval_branch(a, inputs, ones, rest);
-    let (other, second) = eval_branch(b, inputs, others, rest);
+    let (one, first) = eval_branch(either.chosen, inputs, ones, rest);
+    let (other, second) = eval_branch(either.other, inputs, others, rest);
     blend(xs, set, one, other, inputs.live, out);
     first.live == inputs.live && second.live == inputs.live
 }

@@ -8,6 +8,7 @@ ghost use Rattle.std.specs.Prelude.{◌≡◌, ℕ, ℤ, ◌<◌, ◌≤◌, IsT
 ghost use Rattle.std.specs.Prelude.{if◌then◌else◌};
 
 use crate::exact::lanes_pass;
+use crate::filtering::SAMPLE;
 use crate::flag::is_set;
 use crate::lanes::{Lanes, Register};
 use crate::number_test::NumberTest;
@@ -26,6 +27,14 @@ pub(crate) fn all_flags(flags: &[i64], kind: bool, live: usize) -> bool
     ensures { IsTrue result → (k : ℕ) → k < live → is_set_flag (at flags.now k) ≡ kind }
 {
     lanes_pass(Register(flags), NumberTest::is_set(), kind, live)
+}
+
+/// Whether no flag is set. Mostly one of the first flags is: only if none of them is, it looks at the others.
+pub(crate) fn none_set(flags: &[i64], live: usize) -> bool
+    requires { live ≤ length flags.now }
+    ensures { IsTrue result → (k : ℕ) → k < live → is_set_flag (at flags.now k) ≡ false }
+{
+    all_flags(flags, false, live.min(SAMPLE)) && all_flags(flags, false, live)
 }
 
 /// The numbers of the lanes whose flag is as it is wanted, one after the other, and how many they are.

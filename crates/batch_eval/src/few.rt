@@ -12,7 +12,7 @@ ghost use Rattle.lambda_values.specs.declared.item.Item.{Item};
 
 use crate::batch::{Batch, origin_of};
 use crate::inner_columns::Columns;
-use crate::listing::{known, list_items, list_places, list_row};
+use crate::listing::{Row, known, list_items, list_places, list_row};
 use crate::register::LANES;
 use lambda_values::{InnerExpr, Run, closed_range, range};
 use trace::InnerItems;
@@ -24,9 +24,10 @@ struct Put {
     next: usize,
 }
 
-/// The places of lanes: counted up from the first one, or else listed.
+/// The lanes from one on. Their places are counted up from the first lane's, or else listed.
 #[derive(Clone, Copy)]
 struct Places<'a> {
+    from: usize,
     start: Option<u64>,
     listed: &'a [u64],
 }
@@ -49,13 +50,13 @@ impl Batch {
         list_places(self.start, self.live, &mut self.origins);
         self.start = None;
         let places = Places {
+            from: position as usize,
             start: batch.start,
             listed: &batch.origins,
         };
         let put = put_values(
             columns,
             places,
-            position as usize,
             self.live,
             &mut self.origins,
             &mut self.values,
@@ -81,7 +82,6 @@ fn run_of<const CLOSED: bool>(from: i64, to: i64) -> Option<Run>
 fn put_values(
     columns: Columns<'_>,
     places: Places<'_>,
-    from: usize,
     first: usize,
     origins: &mut [u64],
     values: &mut [i64],
@@ -92,26 +92,26 @@ fn put_values(
     requires first { first ≤ 1024 }
     requires origins { length origins.old ≡ 1024 }
     requires values { length values.old ≡ 1024 }
-    ensures items { result.items ≤ columns.entry.lanes - from }
-    ensures put { ArePut (inner_of columns.entry.inner.now) columns.entry.registers.now from
+    ensures items { result.items ≤ columns.entry.lanes - places.entry.from }
+    ensures put { ArePut (inner_of columns.entry.inner.now) columns.entry.registers.now places.entry.from
         (origin_at places.entry.start places.entry.listed.now) (lanes first (item_at None origins.old values.old))
         result.items result.next (item_at None origins.new values.new) }
 {
     match columns.inner {
-        InnerExpr::Range(..) => put_ranges::<false>(columns, places, from, first, origins, values),
+        InnerExpr::Range(..) => put_ranges::<false>(columns, places, first, origins, values),
         InnerExpr::RangeClosed(..) => {
-            put_ranges::<true>(columns, places, from, first, origins, values)
+            put_ranges::<true>(columns, places, first, origins, values)
         }
         InnerExpr::Of(operands) => match operands.exprs().len() {
             0 => Put {
-                items: columns.lanes.saturating_sub(from),
+                items: columns.lanes.saturating_sub(places.from),
                 next: first,
             },
-            1 => put_rows::<1>(1, columns, places, from, first, origins, values),
-            2 => put_rows::<2>(2, columns, places, from, first, origins, values),
-            3 => put_rows::<3>(3, columns, places, from, first, origins, values),
-            4 => put_rows::<4>(4, columns, places, from, first, origins, values),
-            many => put_rows::<0>(many, columns, places, from, first, origins, values),
+            1 => put_rows::<1>(1, columns, places, first, origins, values),
+            2 => put_rows::<2>(2, columns, places, first, origins, values),
+            3 => put_rows::<3>(3, columns, places, first, origins, values),
+            4 => put_rows::<4>(4, columns, places, first, origins, values),
+            many => put_rows::<0>(many, columns, places, first, origins, values),
         },
     }
 }
@@ -121,7 +121,6 @@ fn put_values(
 fn put_ranges<const CLOSED: bool>(
     columns: Columns<'_>,
     places: Places<'_>,
-    from: usize,
     first: usize,
     origins: &mut [u64],
     values: &mut [i64],
@@ -134,8 +133,8 @@ fn put_ranges<const CLOSED: bool>(
     requires first { first ≤ 1024 }
     requires origins { length origins.old ≡ 1024 }
     requires values { length values.old ≡ 1024 }
-    ensures items { result.items ≤ columns.entry.lanes - from }
-    ensures put { ArePut (inner_of columns.entry.inner.now) columns.entry.registers.now from
+    ensures items { result.items ≤ columns.entry.lanes - places.entry.from }
+    ensures put { ArePut (inner_of columns.entry.inner.now) columns.entry.registers.now places.entry.from
         (origin_at places.entry.start places.entry.listed.now) (lanes first (item_at None origins.old values.old))
         result.items result.next (item_at None origins.new values.new) }
 {
@@ -143,9 +142,9 @@ fn put_ranges<const CLOSED: bool>(
     if columns.registers.len() < 2 * LANES {
         return Put { items: 0, next };
     }
-    let count = columns.lanes.saturating_sub(from);
+    let count = columns.lanes.saturating_sub(places.from);
     for items in 0..count {
-        let lane = from + items;
+        let lane = places.from + items;
         let Some(run) = run_of::<CLOSED>(columns.registers[lane], columns.registers[LANES + lane])
         else {
             return Put { items, next };
@@ -170,7 +169,6 @@ fn put_rows<const N: usize>(
     operands: usize,
     columns: Columns<'_>,
     places: Places<'_>,
-    from: usize,
     first: usize,
     origins: &mut [u64],
     values: &mut [i64],
@@ -185,8 +183,8 @@ fn put_rows<const N: usize>(
     requires first { first ≤ 1024 }
     requires origins { length origins.old ≡ 1024 }
     requires values { length values.old ≡ 1024 }
-    ensures items { result.items ≤ columns.entry.lanes - from }
-    ensures put { ArePut (inner_of columns.entry.inner.now) columns.entry.registers.now from
+    ensures items { result.items ≤ columns.entry.lanes - places.entry.from }
+    ensures put { ArePut (inner_of columns.entry.inner.now) columns.entry.registers.now places.entry.from
         (origin_at places.entry.start places.entry.listed.now) (lanes first (item_at None origins.old values.old))
         result.items result.next (item_at None origins.new values.new) }
 {
@@ -197,21 +195,17 @@ fn put_rows<const N: usize>(
             next: first,
         };
     }
-    let count = columns.lanes.saturating_sub(from);
+    let count = columns.lanes.saturating_sub(places.from);
     let items = count.min((LANES - first) / width);
     for item in 0..items {
-        let lane = from + item;
-        let origin = origin_of(places.start, places.listed, lane);
-        let next = first + item * width;
-        list_row::<N>(
-            width,
-            columns.registers,
+        let lane = places.from + item;
+        let row = Row {
+            registers: columns.registers,
             lane,
-            origin,
-            next,
-            origins,
-            values,
-        );
+            count: width,
+            origin: origin_of(places.start, places.listed, lane),
+        };
+        list_row::<N>(row, first + item * width, origins, values);
     }
     Put {
         items,

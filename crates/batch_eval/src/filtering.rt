@@ -4,30 +4,32 @@
 //! flags are, and a further `filter` clears flags. As long as most lanes pass, that is faster than to move their items;
 //! so it is where few operators are left and the sink takes flags.
 
-ghost use Rattle.batch_eval.specs.Batches.{flagged_walk};
+ghost use Rattle.batch_eval.specs.Batches.{flagged_walk, set_items};
 ghost use Rattle.batch_eval.specs.Lanes.{at};
 ghost use Rattle.batch_eval.specs.Pipelines.{piped};
 ghost use Rattle.batch_eval.specs.Rooms.{FitsEach, FitsTest};
 ghost use Rattle.lambda_values.specs.Term.{truth_of};
-ghost use Rattle.std.specs.Prelude.{◌≡◌, ℕ, ◌<◌, ◌≤◌, length};
+ghost use Rattle.std.specs.Prelude.{◌≡◌, ℕ, ◌<◌, ◌≤◌, IsTrue, false, length};
 ghost use Rattle.trace.specs.Stages.{filter, of_item, stages_of};
 ghost use Rattle.trace.specs.Trace.{each};
 
 use crate::batch::{Batch, stopped};
 use crate::cheap::is_cheap;
 use crate::choose::select;
+use crate::in_place::lane_test;
 use crate::keep::keep_lanes;
 use crate::lanes::{Number, Own};
 use crate::number_test::NumberTest;
+use crate::operands::connect;
 use crate::pipeline::Pipeline;
 use crate::register::{Inputs, Operand, eval_bool, eval_long};
 use crate::rows::Rows;
-use lambda_values::BoolExpr;
+use lambda_values::{BoolExpr, Connective};
 use std::mem;
 use trace::Stage;
 
-/// How many flags are looked at to find out whether most are set.
-const SAMPLE: usize = 128;
+/// How many flags are looked at to find out whether most are set, or whether some are.
+pub(crate) const SAMPLE: usize = 128;
 
 /// Whether at least half of the first flags are set, up to 128. A flag that is set is -1: their sum needs no branch.
 fn most_are_set(flags: &[i64], live: usize) -> bool
@@ -113,15 +115,47 @@ impl Batch {
             }
             Some((Stage::Filter(test), later))
                 if is_worth(Operand::Bool(test), in_lanes, flags, self.live) => {
-                if eval_bool(test, inputs, &mut self.spare, room).live < self.live {
+                if !self.clear_flags(test, line, flags, room) {
                     return line;
                 }
-                let set = NumberTest::is_set();
-                select(&self.spare, set, Own, Number(0), self.live, flags);
                 self.sift(later, in_lanes, flags, room)
             }
             _ => line,
         }
+    }
+
+    /// Clears the flags of the lanes at which a test isn't true, if no lane has a fault; else answers false. A test of
+    /// numbers where they lie with a number takes no loop but the one that clears flags.
+    fn clear_flags(
+        &mut self,
+        test: &BoolExpr,
+        line: Pipeline<'_>,
+        flags: &mut [i64],
+        room: &mut [i64],
+    ) -> bool
+        requires flags { length flags.old ≡ 1024 }
+        requires room { FitsTest (truth_of test.now) (length room.old) }
+        ensures cleared { IsTrue result → flagged_walk flags.new self.new
+            ≡ each (of_item line.entry.first (filter (truth_of test.now)) line.entry.env.now)
+            (set_items flags.old self.old.items) self.old.ending }
+        ensures other { result ≡ false → (flags.new ≡ flags.old) × (self.new ≡ self.old) }
+    {
+        let inputs = Inputs {
+            env: line.env,
+            xs: &self.values,
+            live: self.live,
+            rows: Rows::of(self.start, &self.origins),
+        };
+        if let Some(right) = lane_test(test, inputs) {
+            connect(Connective::And, right, self.live, flags);
+            return true;
+        }
+        if eval_bool(test, inputs, &mut self.spare, room).live < self.live {
+            return false;
+        }
+        let set = NumberTest::is_set();
+        select(&self.spare, set, Own, Number(0), self.live, flags);
+        true
     }
 
     /// Moves the items of the lanes whose flag is set to the front.

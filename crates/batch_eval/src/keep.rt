@@ -5,9 +5,11 @@ ghost use Rattle.batch_eval.specs.Lanes.{at};
 ghost use Rattle.std.specs.Prelude.{◌≡◌, ℕ, ◌<◌, ◌≤◌, length, slice_index};
 
 use crate::batch::origin_of;
+use crate::choose::none_set;
 use crate::flag::is_set;
 
 /// Moves the items of the lanes whose flag is set to the front, and answers how many they are. Their places are listed.
+/// The loop takes a step for each lane, so it isn't entered where no flag is set.
 pub(crate) fn keep_lanes(
     flags: &[i64],
     live: usize,
@@ -25,6 +27,9 @@ pub(crate) fn keep_lanes(
     ensures origins { (j : ℕ) → j < result → slice_index origins.new j
         ≡ origin_at start origins.old (slice_index (passing flags.now live) j) }
 {
+    if none_set(flags, live) {
+        return 0;
+    }
     let mut kept = 0;
     for i in 0..live {
         let place = origin_of(start, origins, i);

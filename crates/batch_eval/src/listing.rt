@@ -2,11 +2,12 @@
 
 ghost use Rattle.batch_eval.specs.Batches.{CountsUp, going_up, item_at, origin_at};
 ghost use Rattle.batch_eval.specs.Lanes.{at};
+ghost use Rattle.batch_eval.specs.Pours.{inner_items};
 ghost use Rattle.std.specs.Prelude.{◌≡◌, ◌≢◌, ℕ, ◌+◌, ◌*◌, ◌<◌, ◌≤◌, ◌^◌, None};
 ghost use Rattle.std.specs.Prelude.{Some, length, slice_get, slice_index, take};
 
 use crate::register::LANES;
-use trace::SourceItems;
+use trace::{InnerItems, SourceItems};
 
 /// Copies elements to the front of others.
 pub(crate) fn copy_front<T: Copy>(from: &[T], to: &mut [T])
@@ -67,6 +68,43 @@ pub(crate) fn list_items<I: SourceItems>(
     }
 }
 
+/// The values of an inner stream from a position on, from a lane on; the lanes before it stay. Integers in a row have
+/// a loop of their own, and so do the values of a list: neither loop asks at each lane which of them it has.
+pub(crate) fn list_values(
+    source: &InnerItems<'_>,
+    position: u64,
+    first: usize,
+    count: usize,
+    origins: &mut [u64],
+    values: &mut [i64],
+)
+    requires within { position + count ≤ length (inner_items source.now) }
+    requires bound { length (inner_items source.now) < 2 ^ 64 }
+    requires origins { first + count ≤ length origins.old }
+    requires values { first + count ≤ length values.old }
+    ensures items { (k : ℕ) → k < count
+        → slice_get (inner_items source.now) (position + k) ≡ Some (item_at None origins.new values.new (first + k)) }
+    ensures before { (k : ℕ) → k < first
+        → item_at None origins.new values.new k ≡ item_at None origins.old values.old k }
+{
+    match source.run {
+        Some(run) => {
+            let row = InnerItems {
+                run: Some(run),
+                ..*source
+            };
+            list_items(&row, position, first, count, origins, values);
+        }
+        None => {
+            let list = InnerItems {
+                run: None,
+                ..*source
+            };
+            list_items(&list, position, first, count, origins, values);
+        }
+    }
+}
+
 /// N, which is known where a loop is compiled, unless it is 0; else the number.
 pub(crate) fn known<const N: usize>(number: usize) -> usize
     requires { N ≢ 0 → N ≡ number }
@@ -75,28 +113,34 @@ pub(crate) fn known<const N: usize>(number: usize) -> usize
     if N == 0 { number } else { N }
 }
 
-/// What registers hold at a lane, as items at one place from another lane on; the lanes before that stay.
+/// What this many registers hold at a lane, for items at one place.
+#[derive(Clone, Copy)]
+pub(crate) struct Row<'a> {
+    pub(crate) registers: &'a [i64],
+    pub(crate) lane: usize,
+    pub(crate) count: usize,
+    pub(crate) origin: u64,
+}
+
+/// The items of a row, from a lane on; the lanes before that stay.
 pub(crate) fn list_row<const N: usize>(
-    count: usize,
-    registers: &[i64],
-    lane: usize,
-    origin: u64,
+    row: Row<'_>,
     first: usize,
     origins: &mut [u64],
     values: &mut [i64],
 )
-    requires lane { lane < 1024 }
-    requires known { N ≢ 0 → N ≡ count }
-    requires registers { count * 1024 ≤ length registers.now }
-    requires origins { first + count ≤ length origins.old }
-    requires values { first + count ≤ length values.old }
-    ensures items { (k : ℕ) → k < count → item_at None origins.new values.new (first + k)
-        ≡ record { origin = origin; value = at registers.now (k * 1024 + lane) } }
+    requires lane { row.lane < 1024 }
+    requires known { N ≢ 0 → N ≡ row.count }
+    requires registers { row.count * 1024 ≤ length row.registers.now }
+    requires origins { first + row.count ≤ length origins.old }
+    requires values { first + row.count ≤ length values.old }
+    ensures items { (k : ℕ) → k < row.entry.count → item_at None origins.new values.new (first + k)
+        ≡ record { origin = row.entry.origin; value = at row.entry.registers.now (k * 1024 + row.entry.lane) } }
     ensures before { (k : ℕ) → k < first
         → item_at None origins.new values.new k ≡ item_at None origins.old values.old k }
 {
-    for k in 0..known::<N>(count) {
-        values[first + k] = registers[k * LANES + lane];
-        origins[first + k] = origin;
+    for k in 0..known::<N>(row.count) {
+        values[first + k] = row.registers[k * LANES + row.lane];
+        origins[first + k] = row.origin;
     }
 }

@@ -13,7 +13,7 @@ ghost use Rattle.lambda_values.specs.Term.{long_of, truth_of};
 ghost use Rattle.lambda_values.specs.Value.{long_value, truth_value};
 ghost use Rattle.std.specs.Prelude.{◌≡◌, ◌≤◌, Ok, length};
 
-use crate::choice::eval_chosen;
+use crate::choice::{Either, eval_chosen};
 use crate::constant::number_in;
 use crate::dispatch::{by_infix, has_shorter_way};
 use crate::flag::flag;
@@ -25,7 +25,7 @@ use crate::number_test::NumberTest;
 use crate::operands::{Beside, Branch, Held, Step, connect, fill, flag_held};
 use crate::reached::{Reached, all};
 use crate::rows::{Rows, cells_in_place, gather_cells, number_rows};
-use crate::step::{last_step, masked_with, no_step};
+use crate::step::{comparison_of, last_step, masked_with, no_step};
 use lambda_values::{BoolExpr, Connective, Env, LongExpr, LongPair};
 
 /// The most lanes of a batch, and the length of a register.
@@ -84,14 +84,13 @@ pub(crate) fn eval_long(
         LongExpr::Binary(operator, pair) => {
             eval_between(Infix::Compute(*operator), pair, inputs, out, room)
         }
-        LongExpr::Choose(choice) => eval_chosen(
-            &choice.condition,
-            Operand::Long(&choice.chosen),
-            Operand::Long(&choice.other),
-            inputs,
-            out,
-            room,
-        ),
+        LongExpr::Choose(choice) => {
+            let either = Either {
+                chosen: Operand::Long(&choice.chosen),
+                other: Operand::Long(&choice.other),
+            };
+            eval_chosen(&choice.condition, either, inputs, out, room)
+        }
     }
 }
 
@@ -141,25 +140,33 @@ fn eval_truth(test: &BoolExpr, inputs: Inputs<'_, '_>, out: &mut [i64], room: &m
             eval_between(Infix::Compare(*comparison), pair, inputs, out, room)
         }
         BoolExpr::Not(operand) => {
+            if let Some((comparison, pair)) = comparison_of(test) {
+                return eval_between(Infix::Compare(comparison), pair, inputs, out, room);
+            }
             let first = eval_bool(operand, inputs, out, room);
             run::<Equal, Own, Number>(Own, Number(0), first.live, out).after(first)
         }
         BoolExpr::Connect(Connective::And, pair) => {
-            let right = Operand::Bool(&pair.right);
-            eval_chosen(&pair.left, right, Operand::Flag(false), inputs, out, room)
+            let either = Either {
+                chosen: Operand::Bool(&pair.right),
+                other: Operand::Flag(false),
+            };
+            eval_chosen(&pair.left, either, inputs, out, room)
         }
         BoolExpr::Connect(Connective::Or, pair) => {
-            let right = Operand::Bool(&pair.right);
-            eval_chosen(&pair.left, Operand::Flag(true), right, inputs, out, room)
+            let either = Either {
+                chosen: Operand::Flag(true),
+                other: Operand::Bool(&pair.right),
+            };
+            eval_chosen(&pair.left, either, inputs, out, room)
         }
-        BoolExpr::Choose(choice) => eval_chosen(
-            &choice.condition,
-            Operand::Bool(&choice.chosen),
-            Operand::Bool(&choice.other),
-            inputs,
-            out,
-            room,
-        ),
+        BoolExpr::Choose(choice) => {
+            let either = Either {
+                chosen: Operand::Bool(&choice.chosen),
+                other: Operand::Bool(&choice.other),
+            };
+            eval_chosen(&choice.condition, either, inputs, out, room)
+        }
     }
 }
 

@@ -3,12 +3,12 @@
 
 ghost use Rattle.batch_eval.specs.Batches.{fed_of};
 ghost use Rattle.batch_eval.specs.Pipelines.{piped};
-ghost use Rattle.batch_eval.specs.Pours.{Holds, Poured};
+ghost use Rattle.batch_eval.specs.Pours.{Holds, Poured, inner_items};
 ghost use Rattle.batch_eval.specs.Rooms.{FitsStages};
-ghost use Rattle.lambda_values.specs.Streams.{inner_of, run_or_listed};
+ghost use Rattle.lambda_values.specs.Streams.{inner_of};
 ghost use Rattle.std.specs.Prelude.{◌≡◌, ◌+◌, ◌<◌, ◌≤◌, ◌^◌, List, [], ◌++◌, Ok, OnErr, Some, length};
 ghost use Rattle.trace.specs.Sinks.{IsFed, flow_after};
-ghost use Rattle.trace.specs.Stages.{at_place, flat_map, of_item, stages_of};
+ghost use Rattle.trace.specs.Stages.{flat_map, of_item, stages_of};
 ghost use Rattle.trace.specs.Trace.{each, trace};
 ghost use Rattle.trace.specs.declared.feeding.Fed.TheVariants as fed;
 ghost use Rattle.lambda_values.specs.declared.item.Item.{Item};
@@ -19,8 +19,8 @@ use crate::inner_columns::{Columns, column_room, eval_columns};
 use crate::lane_items::LaneItems;
 use crate::pipeline::Pipeline;
 use crate::register::LANES;
-use crate::sink::BatchSink;
-use lambda_values::{InnerExpr, ListedValues, Run};
+use crate::sink::{BatchSink, accept_each};
+use lambda_values::{InnerExpr, ListedValues};
 use trace::{
     End, Fault, Fed, Flow, InnerItems, Item, NoMemory, SourceItems, Stage, asked, feed_all,
 };
@@ -158,46 +158,22 @@ fn pour<S: BatchSink>(
     requires wants { S.flow sink.old ≡ Flow.More }
     requires room { FitsStages (stages_of line.stages.now) (length room.old) }
     ensures poured { (xs whole : List Item) → Holds S.has_taken line.entry xs whole pending.old.items sink.old
-        → Poured S.has_taken line.entry xs (whole ++ at_place values.now.origin
-        (run_or_listed values.now.run values.now.listed.now)) result pending.new.items sink.new }
+        → Poured S.has_taken line.entry xs (whole ++ inner_items values.now)
+        result pending.new.items sink.new }
     ensures flow { S.flow sink.new ≡ flow_after result }
     ensures refused { OnErr result S.takes_memory }
 {
-    match values.run {
-        Some(run) if line.stages.is_empty() && sink.takes_runs() => {
-            pour_run(line, values, run, pending, rest, room, sink)
+    if let Some(run) = values.run {
+        if line.stages.is_empty() && sink.takes_runs() {
+            match make_space(line, 0, pending, rest, room, sink)? {
+                Fed::More => {}
+                stopped => return Ok(stopped),
+            }
+            if sink.accept_run(run) {
+                return Ok(asked(Fed::More, run.count, sink));
+            }
+            return accept_each(values, sink);
         }
-        _ => pour_lanes(line, values, pending, rest, room, sink),
-    }
-}
-
-/// Gives the sink the integers in a row of an inner stream at once, after the values that wait.
-#[cycle(batches)]
-fn pour_run<S: BatchSink>(
-    line: Pipeline<'_>,
-    values: &InnerItems<'_>,
-    run: Run,
-    pending: &mut Batch,
-    rest: &mut [Batch],
-    room: &mut [i64],
-    sink: &mut S,
-) -> Result<Fed, NoMemory>
-    requires wants { S.flow sink.old ≡ Flow.More }
-    requires room { FitsStages (stages_of line.stages.now) (length room.old) }
-    requires last { line.stages.now ≡ [] }
-    requires run { values.now.run ≡ Some run }
-    ensures poured { (xs whole : List Item) → Holds S.has_taken line.entry xs whole pending.old.items sink.old
-        → Poured S.has_taken line.entry xs (whole ++ at_place values.now.origin
-        (run_or_listed values.now.run values.now.listed.now)) result pending.new.items sink.new }
-    ensures flow { S.flow sink.new ≡ flow_after result }
-    ensures refused { OnErr result S.takes_memory }
-{
-    match make_space(line, 0, pending, rest, room, sink)? {
-        Fed::More => {}
-        stopped => return Ok(stopped),
-    }
-    if sink.accept_run(run) {
-        return Ok(asked(Fed::More, run.count, sink));
     }
     pour_lanes(line, values, pending, rest, room, sink)
 }
@@ -216,13 +192,11 @@ fn pour_lanes<S: BatchSink>(
     requires wants { S.flow sink.old ≡ Flow.More }
     requires room { FitsStages (stages_of line.stages.now) (length room.old) }
     ensures poured { (xs whole : List Item) → Holds S.has_taken line.entry xs whole pending.old.items sink.old
-        → Poured S.has_taken line.entry xs (whole ++ at_place values.now.origin
-        (run_or_listed values.now.run values.now.listed.now)) result pending.new.items sink.new }
+        → Poured S.has_taken line.entry xs (whole ++ inner_items values.now)
+        result pending.new.items sink.new }
     ensures flow { S.flow sink.new ≡ flow_after result }
     ensures refused { OnErr result S.takes_memory }
 {
-    // A copy stays in registers: the loop that adds values would read them through the reference for each lane.
-    let values = *values;
     let count = values.count();
     let mut position = 0;
     while position < count {
@@ -231,7 +205,7 @@ fn pour_lanes<S: BatchSink>(
             stopped => return Ok(stopped),
         }
         let taken = (LANES as u64 - pending.count()).min(count - position);
-        pending.add(&values, position, taken);
+        pending.add(values, position, taken);
         position += taken;
     }
     Ok(Fed::More)

@@ -4,21 +4,22 @@ ghost use Rattle.batch_eval.specs.Batches.{holds};
 ghost use Rattle.batch_eval.specs.Lanes.{step_value};
 ghost use Rattle.batch_eval.specs.NumberTests.{seen_of};
 ghost use Rattle.batch_eval.specs.Powers.{power};
-ghost use Rattle.batch_eval.specs.Rooms.{Fits, FitsTest, size};
+ghost use Rattle.batch_eval.specs.Rooms.{Fits, FitsBoth, FitsTest, size};
 ghost use Rattle.lambda_values.specs.Operators.{binary_value, comparison_value, on, remainder};
-ghost use Rattle.lambda_values.specs.Term.{long_of, truth_of};
+ghost use Rattle.lambda_values.specs.Earlier.{Numbers};
+ghost use Rattle.lambda_values.specs.Term.{compare, long_of, truth_of};
 ghost use Rattle.lambda_values.specs.declared.expr.BoolExpr.{size-BoolExpr};
 ghost use Rattle.lambda_values.specs.declared.item.Item.{Item};
 ghost use Rattle.lambda_values.specs.Value.{long_value, truth_value};
 ghost use Rattle.std.specs.Ordering.{int_eq};
-ghost use Rattle.std.specs.Prelude.{◌≡◌, ◌<◌, ◌≤◌, ℕ, ℤ, pos, true, IfSome, Ok};
+ghost use Rattle.std.specs.Prelude.{◌≡◌, ◌<◌, ◌≤◌, ℕ, ℤ, not, pos, true, IfSome, Ok};
 
 use crate::constant::number_in;
 use crate::multiply::is_half;
 use crate::number_test::{NumberTest, Seen};
 use crate::operands::Step;
 use crate::power::exponent_of;
-use lambda_values::{BinaryOperator, BoolExpr, Comparison, Env, LongExpr};
+use lambda_values::{BinaryOperator, BoolExpr, Comparison, Env, LongExpr, LongPair};
 
 /// An expression without its last operator, and that operator as a step; or the whole expression.
 #[derive(Clone, Copy)]
@@ -85,12 +86,43 @@ pub(crate) fn compared_with<'a>(test: &'a BoolExpr, env: &Env) -> Option<(&'a Lo
         → Fits (long_of parts.0.now) room) }
     ensures size { IfSome result (λ parts. size parts.0.now < size-BoolExpr test.now) }
 {
-    let BoolExpr::Compare(comparison, pair) = test else {
-        return None;
-    };
+    let (comparison, pair) = comparison_of(test)?;
     let number = number_in(&pair.right, env)?;
-    let (of, seen) = seen_by(*comparison, &pair.left, number, env);
-    Some((of, NumberTest::new(seen, *comparison, number)?))
+    let (of, seen) = seen_by(comparison, &pair.left, number, env);
+    Some((of, NumberTest::new(seen, comparison, number)?))
+}
+
+/// A test as a comparison of two expressions: one with a `!` before it is the opposite comparison.
+pub(crate) fn comparison_of(test: &BoolExpr) -> Option<(Comparison, &LongPair)>
+    ensures value { IfSome result (λ parts. (x : Item) (env : Numbers) → truth_value (truth_of test.now) x env
+        ≡ truth_value (compare parts.0 (long_of parts.1.now.left) (long_of parts.1.now.right)) x env) }
+    ensures room { IfSome result (λ parts. (room : ℕ) → FitsTest (truth_of test.now) room
+        → FitsBoth (long_of parts.1.now.left) (long_of parts.1.now.right) room) }
+    ensures left { IfSome result (λ parts. size parts.1.now.left < size-BoolExpr test.now) }
+    ensures right { IfSome result (λ parts. size parts.1.now.right < size-BoolExpr test.now) }
+{
+    match test {
+        BoolExpr::Compare(comparison, pair) => Some((*comparison, pair)),
+        BoolExpr::Not(operand) => {
+            let (comparison, pair) = comparison_of(operand)?;
+            Some((opposite_of(comparison), pair))
+        }
+        _ => None,
+    }
+}
+
+/// The comparison that holds where this one doesn't.
+fn opposite_of(comparison: Comparison) -> Comparison
+    ensures { (v w : ℤ) → comparison_value result v w ≡ not (comparison_value comparison v w) }
+{
+    match comparison {
+        Comparison::Equal => Comparison::NotEqual,
+        Comparison::NotEqual => Comparison::Equal,
+        Comparison::Less => Comparison::GreaterOrEqual,
+        Comparison::LessOrEqual => Comparison::Greater,
+        Comparison::Greater => Comparison::LessOrEqual,
+        Comparison::GreaterOrEqual => Comparison::Less,
+    }
 }
 
 /// A test as a comparison of what it sees of an expression with a number, if it doesn't see all.

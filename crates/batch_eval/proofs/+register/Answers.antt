@@ -33,7 +33,8 @@ choice::eval_chosen-returns m c =
     let t : ℕ → Result Bool FaultKind = λ k. truth_value (truth_of c.args.condition.now) (lane_item c.args.inputs k)
     env in
     let value : Operand → ℕ → Result ℤ FaultKind = λ e k. operand_value e (lane_item c.args.inputs k) env in
-    rw c.after-2.ensures (chosen_reaches t (value c.args.a) (value c.args.b) c.eval_bool-tested.new.out
+    rw c.after-2.ensures (chosen_reaches t (value c.args.either.chosen) (value c.args.either.other)
+    c.eval_bool-tested.new.out
     c.eval_parted.new.out c.args.inputs.live c.eval_bool-tested.result c.eval_parted.result
     c.eval_bool-tested.ensures c.eval_parted.ensures)
 
@@ -43,9 +44,11 @@ choice::eval_chosen-returns-then-eval_both m c =
     let t : ℕ → Result Bool FaultKind = λ k. truth_value (truth_of c.args.condition.now) (lane_item c.args.inputs k)
     env in
     let value : Operand → ℕ → Result ℤ FaultKind = λ e k. operand_value e (lane_item c.args.inputs k) env in
-    rw (c.after.ensures, c.all-then-eval_both.ensures) (chosen_everywhere t (value c.args.a) (value c.args.b)
+    rw (c.after.ensures, c.all-then-eval_both.ensures)
+    (chosen_everywhere t (value c.args.either.chosen) (value c.args.either.other)
     c.eval_bool-tested.new.out c.eval_both.new.out c.args.inputs.live c.eval_bool-tested.result
-    c.eval_bool-tested.ensures (λ k below. ap (λ p. chosen p (value c.args.a k) (value c.args.b k))
+    c.eval_bool-tested.ensures (λ k below. ap
+    (λ p. chosen p (value c.args.either.chosen k) (value c.args.either.other k))
     (sym (c.is_set.ensures (at c.eval_bool-tested.new.out k)))
     ∙ c.eval_both.ensures c.if-eval_both.true k below))
 
@@ -58,7 +61,7 @@ choice::eval_both-returns-then-first-inputs m c = λ is k below.
     let all : one.1.live ≡ c.args.inputs.live = c.if-first-inputs.true in
     let both : other.1.live ≡ c.args.inputs.live = eqb-true other.1.live c.args.inputs.live is in
     chosen_ones (holds c.args.set (at c.args.xs.now k)) (branch_at one.0 k) (branch_at other.0 k) (at c.blend.new.out k)
-    (operand_value c.args.a x env) (operand_value c.args.b x env) (c.blend.ensures k below)
+    (operand_value c.args.either.chosen x env) (operand_value c.args.either.other x env) (c.blend.ensures k below)
     (c.eval_branch.ensures.reached.values k (omega (arith, all, below)))
     (c.eval_branch-2.ensures.reached.values k (omega (arith, both, below)))
 
@@ -73,7 +76,7 @@ choice::eval_both-eval_branch-requires t c =
           c.requires.xs,
           (
             c.requires.rows,
-            (search rules, subst (λ (m : ℕ). FitsOperand c.args.a m) (sym len) c.requires.room.1),
+            (search rules, subst (λ (m : ℕ). FitsOperand c.args.either.chosen m) (sym len) c.requires.room.1),
           ),
         ),
       ),
@@ -90,7 +93,7 @@ choice::eval_both-eval_branch-requires-2 t c =
           c.requires.xs,
           (
             c.requires.rows,
-            (search rules, subst (λ (m : ℕ). FitsOperand c.args.b m) (sym len) c.requires.room.2),
+            (search rules, subst (λ (m : ℕ). FitsOperand c.args.either.other m) (sym len) c.requires.room.2),
           ),
         ),
       ),
@@ -99,8 +102,8 @@ choice::eval_both-eval_branch-requires-2 t c =
 pub choice::eval_parted-returns : goal.choice::eval_parted-returns
 choice::eval_parted-returns m c =
     let env = c.args.inputs.env.now in
-    let a = c.args.a in
-    let b = c.args.b in
+    let a = c.args.either.chosen in
+    let b = c.args.either.other in
     let flags = c.args.flags.now in
     let live = c.args.inputs.live in
     let rows = c.args.inputs.rows in
@@ -148,7 +151,7 @@ choice::eval_parted-eval_operand-first-requires t c =
             search rules,
             (
               search rules,
-              subst (λ (m : ℕ). FitsOperand c.args.a m) (sym len) c.requires.room.1,
+              subst (λ (m : ℕ). FitsOperand c.args.either.chosen m) (sym len) c.requires.room.1,
             ),
           ),
         ),
@@ -168,7 +171,7 @@ choice::eval_parted-eval_operand-second-requires t c =
             search rules,
             (
               search rules,
-              subst (λ (m : ℕ). FitsOperand c.args.b m) (sym len) c.requires.room.2,
+              subst (λ (m : ℕ). FitsOperand c.args.either.other m) (sym len) c.requires.room.2,
             ),
           ),
         ),
@@ -186,7 +189,7 @@ choice::eval_parted-eval_operand-requires t c =
           c.requires.xs,
           (
             c.requires.rows,
-            (c.requires.out, subst (λ (m : ℕ). FitsOperand c.args.a m) (sym len) c.requires.room.1),
+            (c.requires.out, subst (λ (m : ℕ). FitsOperand c.args.either.chosen m) (sym len) c.requires.room.1),
           ),
         ),
       ),
@@ -204,7 +207,7 @@ choice::eval_parted-eval_operand-requires-then-all_flags-2 t c =
           c.requires.xs,
           (
             c.requires.rows,
-            (c.requires.out, subst (λ (m : ℕ). FitsOperand c.args.b m) (sym len) c.requires.room.2),
+            (c.requires.out, subst (λ (m : ℕ). FitsOperand c.args.either.other m) (sym len) c.requires.room.2),
           ),
         ),
       ),
@@ -250,7 +253,8 @@ choice::eval_tested-returns m c = λ is k below.
     let test = c.in-Some.test in
     let still : lane_passes test k ≡ holds test.set (at test.xs.now k) =
     ap (λ (s : Step). holds test.set (step_value s (at test.xs.now k))) c.in-Stay.is in
-    ap (λ (t : Result Bool FaultKind). chosen_value t (operand_value c.args.a x env) (operand_value c.args.b x env))
+    ap (λ (t : Result Bool FaultKind). chosen_value t (operand_value c.args.either.chosen x env)
+    (operand_value c.args.either.other x env))
     (c.in-Some.ensures.passes k below ∙ ap Ok still) ∙ c.eval_both.ensures is k below
 
 pub choice::eval_chosen-eval_both-requires : goal.choice::eval_chosen-eval_both-requires
@@ -269,7 +273,8 @@ choice::eval_chosen-eval_both-requires t c =
               fewer_rows c.args.inputs.rows c.eval_bool-tested.result.live c.args.inputs.live within c.requires.rows,
               (
                 search rules,
-                parted_fits (truth_of c.args.condition.now) c.args.a c.args.b (length c.args.room.now)
+                parted_fits (truth_of c.args.condition.now) c.args.either.chosen c.args.either.other
+                    (length c.args.room.now)
                     (length c.eval_bool-tested.new.room) len c.requires.room,
               ),
             ),
@@ -294,7 +299,8 @@ choice::eval_chosen-eval_parted-requires t c =
               fewer_rows c.args.inputs.rows c.eval_bool-tested.result.live c.args.inputs.live within c.requires.rows,
               (
                 search rules,
-                parted_fits (truth_of c.args.condition.now) c.args.a c.args.b (length c.args.room.now)
+                parted_fits (truth_of c.args.condition.now) c.args.either.chosen c.args.either.other
+                    (length c.args.room.now)
                     (length c.eval_both.new.room) len
                     c.requires.room,
               ),

@@ -40,13 +40,14 @@ abbrev pub decreases-register::eval_between : goal.decreases-register::eval_betw
 decreases-register::eval_between l = 8 * max (size-LongExpr l.pair.now.left) (size-LongExpr l.pair.now.right) + 4
 
 abbrev pub decreases-choice::eval_chosen : goal.decreases-choice::eval_chosen
-decreases-choice::eval_chosen l = 8 * max (size-BoolExpr l.condition.now) (max (size l.a) (size l.b)) + 5
+decreases-choice::eval_chosen l = 8 * max (size-BoolExpr l.condition.now)
+    (max (size l.either.chosen) (size l.either.other)) + 5
 
 abbrev pub decreases-choice::eval_tested : goal.decreases-choice::eval_tested
-decreases-choice::eval_tested l = 8 * max (size l.a) (size l.b) + 4
+decreases-choice::eval_tested l = 8 * max (size l.either.chosen) (size l.either.other) + 4
 
 abbrev pub decreases-choice::eval_parted : goal.decreases-choice::eval_parted
-decreases-choice::eval_parted l = 8 * max (size l.a) (size l.b) + 3
+decreases-choice::eval_parted l = 8 * max (size l.either.chosen) (size l.either.other) + 3
 
 abbrev pub decreases-choice::eval_both : goal.decreases-choice::eval_both
-decreases-choice::eval_both l = 8 * max (size l.a) (size l.b) + 3
+decreases-choice::eval_both l = 8 * max (size l.either.chosen) (size l.either.other) + 3

@@ -29,7 +29,7 @@ loop-items-preserved g c =
     let inner = inner_of c.args.columns.inner.now in
     let rs = c.args.columns.registers.now in
     let n = c.loop-items.items in
-    let i = c.args.from + n in
+    let i = c.args.places.from + n in
     let v = to_z w64 (of_z w64 (at rs i)) in
     let w = to_z w64 (of_z w64 (at rs (1024 + i))) in
     let p : at rs i ≡ v = search rules in
@@ -41,7 +41,7 @@ loop-items-preserved g c =
     let o = c.origin_of.result in
     let new : ℕ → Item = item_at None c.list_items.new.origins c.list_items.new.values in
     let here = rw (p, q) at (c.requires.kind i) ∙ c.in-Some.ensures in
-    put_more inner rs c.args.from (origin_at c.args.places.start c.args.places.listed.now)
+    put_more inner rs c.args.places.from (origin_at c.args.places.start c.args.places.listed.now)
     (lanes c.args.first (item_at None c.args.origins.now c.args.values.now)) n next size o vs
     (item_at None c.loop-items.origins c.loop-items.values) new here c.origin_of.ensures
     (items_lanes (at_place o vs) size (λ k. new (next + k))

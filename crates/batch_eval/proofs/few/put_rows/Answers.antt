@@ -13,9 +13,9 @@ loop-item-preserved g c =
     let inner = inner_of c.args.columns.inner.now in
     let rs = c.args.columns.registers.now in
     let n = c.loop-item.item in
-    let lane = c.args.from + n in
+    let lane = c.args.places.from + n in
     let next = c.args.first + n * c.args.operands in
-    let o = c.origin_of-origin.result in
+    let o = c.origin_of.result in
     let items = rw c.known-width.ensures at c.list_row.ensures.items in
     let earlier = rw c.known-width.ensures at c.list_row.ensures.before in
     let new : ℕ → Item = item_at None c.list_row.new.origins c.list_row.new.values in
@@ -26,9 +26,9 @@ loop-item-preserved g c =
     let width = ap (λ (m : ℕ). (1024 - c.args.first) / m) c.known-width.ensures in
     let space = space_more c.args.operands (1024 - c.args.first) n c.min-items.result c.requires.some (omega arith)
     (omega (arith, width)) in
-    subst (λ (m : ℕ). ArePut inner rs c.args.from place before (n + 1) m new) on
-    (put_more inner rs c.args.from place before n next c.args.operands o (row rs lane c.args.operands)
-    (item_at None c.loop-item.origins c.loop-item.values) new (c.requires.kind lane) c.origin_of-origin.ensures
+    subst (λ (m : ℕ). ArePut inner rs c.args.places.from place before (n + 1) m new) on
+    (put_more inner rs c.args.places.from place before n next c.args.operands o (row rs lane c.args.operands)
+    (item_at None c.loop-item.origins c.loop-item.values) new (c.requires.kind lane) c.origin_of.ensures
     (row_lanes o rs lane c.args.operands
     ∙ lanes_same c.args.operands held (λ k. new (next + k)) (λ k below. sym (items k below))) earlier
     (omega (arith, space, c.requires.first)) c.loop-item.invariant)

@@ -24,7 +24,7 @@ pub returns-in-0-clause-put : goal.returns-in-0-clause-put
 returns-in-0-clause-put c =
     let registers = c.args.columns.registers.now in
     let item = item_at None c.args.origins.now c.args.values.now in
-    empty_put (inner_of c.args.columns.inner.now) registers c.args.from
+    empty_put (inner_of c.args.columns.inner.now) registers c.args.places.from
     (origin_at c.args.places.start c.args.places.listed.now) (lanes c.args.first item) c.saturating_sub.result
     c.args.first item (of_rows (inner_of c.args.columns.inner.now) c.in-Of.operands.exprs.items c.exprs.result.now 0
     (ap inner_of c.in-Of.is) c.exprs.ensures.value c.in-0.is registers) c.requires.first refl

@@ -1,11 +1,16 @@
 use Rattle.std.proofs.Common.{Bool, ◌≡◌, ℕ, ◌+◌, ◌<◌, ◌≤◌, ℤ, pos, length, slice_index, get_or, ◌∙◌, arith, rules, w64}
-use Rattle.std.proofs.Common.{to_z, of_z, subst}
+use Rattle.std.proofs.Common.{to_z, of_z, subst, sym}
 use Rattle.batch_eval.specs.Lanes.{at, is_set}
 use Rattle.batch_eval.specs.Batches.{origin_at, passing}
-use Rattle.batch_eval.proofs.KeptLaneLemmas.{kept_set, kept_unset, front_more, rest_more}
+use Rattle.batch_eval.proofs.KeptLaneLemmas.{kept_set, kept_unset, front_more, none_picked, rest_more}
 use Rattle.batch_eval.proofs.Items.{same_place}
 use Rattle.batch_eval.proofs.keep.keep_lanes.Goals.{then-is_set, else-is_set}
 use Rattle.batch_eval.proofs.keep.keep_lanes.Goals as goal
+
+pub returns-then-none_set-clause-count : goal.returns-then-none_set-clause-count
+returns-then-none_set-clause-count c =
+    let flags = c.args.flags.now in
+    sym (none_picked (λ k. is_set (at flags k)) c.args.live (c.none_set.ensures c.if-none_set.true))
 
 pub loop-i-preserved : goal.loop-i-preserved
 loop-i-preserved c =

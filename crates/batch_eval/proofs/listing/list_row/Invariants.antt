@@ -7,7 +7,7 @@ abbrev pub invariant-loop-k : goal.invariant-loop-k
 invariant-loop-k g l =
     record {
       items : (k : ℕ) → k < l.k → item_at None l.origins l.values (l.first + k)
-          ≡ record { origin = l.origin; value = at l.registers (k * 1024 + l.lane) };
+          ≡ record { origin = l.row.origin; value = at l.row.registers.now (k * 1024 + l.row.lane) };
       before : (k : ℕ) → k < l.first → item_at None l.origins l.values k
           ≡ item_at None l.initial.origins l.initial.values k;
     }

@@ -13,14 +13,15 @@ use Rattle.lambda_values.specs.Streams.{inner_of, run_or_listed}
 use Rattle.lambda_values.specs.Term.{truth_of}
 use Rattle.batch_eval.specs.Batches.{item_at, laid_items, lanes}
 use Rattle.batch_eval.specs.Pipelines.{AreImages, piped}
-use Rattle.batch_eval.specs.Pours.{Holds, Poured}
+use Rattle.batch_eval.specs.Pours.{Holds, Poured, inner_items}
 use Rattle.batch_eval.proofs.SetItemLemmas.{none_left}
-use Rattle.batch_eval.proofs.WaitingItemLemmas.{holds_none, holds_ended, holds_added, holds_further, flushed}
+use Rattle.batch_eval.proofs.WaitingItemLemmas.{holds_more, holds_none, holds_ended, holds_added, holds_further}
+use Rattle.batch_eval.proofs.WaitingItemLemmas.{flushed}
 use Rattle.batch_eval.proofs.WaitingItemLemmas.{poured_rest, poured_stopped, inner_stopped, each_next, each_fault}
 use Rattle.batch_eval.proofs.WaitingItemLemmas.{each_whole}
 use Rattle.batch_eval.proofs.Items.{length_lanes}
 use Rattle.batch_eval.proofs.RowLemmas.{operands_laid}
-use Rattle.batch_eval.proofs.RunLemmas.{none_waits, taken_at_once, values_at_place}
+use Rattle.batch_eval.proofs.RunLemmas.{none_waits, taken_at_once, unpiped, values_at_place}
 use Rattle.batch_eval.proofs.staging.+batches.Goals as goal
 
 pub feed_batch-returns-in-Some-split_first_mut-clause-fed : goal.feed_batch-returns-in-Some-split_first_mut-clause-fed
@@ -75,43 +76,6 @@ make_space-returns-in_err-fed-clause-poured g t c = λ xs whole held.
     rw p.1 (holds_ended g.S.LongSink.has_taken c.args.line xs whole c.args.pending.now.items end.Done
     (Err c.in_err-fed.field-0.0) c.args.sink.now c.feed_batch.new.sink held here)
 
-pub pour_run-returns-in_err-stopped-clause-poured : goal.pour_run-returns-in_err-stopped-clause-poured
-pour_run-returns-in_err-stopped-clause-poured g t c = λ xs whole held.
-    let e = err_from_is_err_and c.from_residual.result c.from_residual.ensures.1 in
-    let zs = at_place c.args.values.now.origin (run_or_listed c.args.values.now.run c.args.values.now.listed.now) in
-    rw e.1 (poured_stopped g.S.LongSink.has_taken c.args.line xs whole zs (Err c.in_err-stopped.field-0.0)
-    c.make_space.new.pending.items c.make_space.new.sink (λ e. cc) (c.in_err-stopped.ensures.poured xs whole held))
-
-pub pour_run-returns-in_default-clause-poured : goal.pour_run-returns-in_default-clause-poured
-pour_run-returns-in_default-clause-poured g t c = λ xs whole held.
-    let zs = at_place c.args.values.now.origin (run_or_listed c.args.values.now.run c.args.values.now.listed.now) in
-    poured_stopped g.S.LongSink.has_taken c.args.line xs whole zs (Ok c.in_ok-stopped.stopped)
-    c.make_space.new.pending.items c.make_space.new.sink (λ e. c.in_default.not-More cc)
-    (c.in_ok-stopped.ensures.poured xs whole held)
-
-pub pour_run-returns-then-accept_run-clause-poured : goal.pour_run-returns-then-accept_run-clause-poured
-pour_run-returns-then-accept_run-clause-poured g t c = λ xs whole held.
-    let h = g.S.LongSink.has_taken in
-    let line = c.args.line in
-    let values = c.args.values.now in
-    let zs = at_place values.origin (run_or_listed values.run values.listed.now) in
-    let pending = c.make_space.new.pending.items in
-    let poured = rw c.in-More.is at c.in_ok-stopped.ensures.poured in
-    let few : length pending ≤ 0 = c.in_ok-stopped.ensures.space (ap Ok c.in-More.is) in
-    let same = values_at_place values.origin (run_or_listed values.run values.listed.now)
-    ∙ ap (λ r. run_or_listed r values.listed.now) c.requires.run in
-    let all = taken_at_once h line xs whole zs pending c.make_space.new.sink c.accept_run.new.self c.requires.last few
-    (poured xs whole held) (λ took. c.accept_run.ensures.taken c.if-accept_run.true (xs ++ whole) zs same took) in
-    let fed = c.asked.ensures.fed xs (piped line (trace (whole ++ zs) end.Done)) all in
-    subst (λ (ys : List Item). Poured h line xs (whole ++ zs) (Ok c.asked.result) ys c.asked.new.sink)
-    (sym (none_waits pending few)) (flushed h line xs (whole ++ zs) (Ok c.asked.result) c.asked.new.sink fed)
-
-pub pour_run-returns-clause-poured : goal.pour_run-returns-clause-poured
-pour_run-returns-clause-poured g t c = λ xs whole held.
-    let h = g.S.LongSink.has_taken in
-    let poured = rw c.in-More.is at c.in_ok-stopped.ensures.poured in
-    c.pour_lanes.ensures.poured xs whole (rw (c.accept_run.ensures.other c.if-accept_run.false) (poured xs whole held))
-
 pub pour_lanes-loop-position-init : goal.pour_lanes-loop-position-init
 pour_lanes-loop-position-init g t c =
     record {
@@ -126,7 +90,7 @@ pub pour_lanes-loop-position-preserved : goal.pour_lanes-loop-position-preserved
 pour_lanes-loop-position-preserved g t c =
     let h = g.S.LongSink.has_taken in
     let line = c.args.line in
-    let zs = at_place c.args.values.now.origin (run_or_listed c.args.values.now.run c.args.values.now.listed.now) in
+    let zs = inner_items c.args.values.now in
     let p = c.loop-position.position in
     let poured = rw c.in-More.is at c.in_ok-stopped.ensures.poured in
     record {
@@ -141,7 +105,7 @@ pour_lanes-loop-position-preserved g t c =
 
 pub pour_lanes-returns-in_default-clause-poured : goal.pour_lanes-returns-in_default-clause-poured
 pour_lanes-returns-in_default-clause-poured g t c = λ xs whole held.
-    let zs = at_place c.args.values.now.origin (run_or_listed c.args.values.now.run c.args.values.now.listed.now) in
+    let zs = inner_items c.args.values.now in
     let p = c.loop-position.position in
     poured_rest g.S.LongSink.has_taken c.args.line xs whole zs p (Ok c.in_ok-stopped.stopped)
     c.make_space.new.pending.items c.make_space.new.sink (λ e. c.in_default.not-More cc)
@@ -150,7 +114,7 @@ pour_lanes-returns-in_default-clause-poured g t c = λ xs whole held.
 pub pour_lanes-returns-in_err-stopped-clause-poured : goal.pour_lanes-returns-in_err-stopped-clause-poured
 pour_lanes-returns-in_err-stopped-clause-poured g t c = λ xs whole held.
     let e = err_from_is_err_and c.from_residual.result c.from_residual.ensures.1 in
-    let zs = at_place c.args.values.now.origin (run_or_listed c.args.values.now.run c.args.values.now.listed.now) in
+    let zs = inner_items c.args.values.now in
     let p = c.loop-position.position in
     rw e.1 (poured_rest g.S.LongSink.has_taken c.args.line xs whole zs p (Err c.in_err-stopped.field-0.0)
     c.make_space.new.pending.items c.make_space.new.sink (λ e. cc)
@@ -158,7 +122,7 @@ pour_lanes-returns-in_err-stopped-clause-poured g t c = λ xs whole held.
 
 pub pour_lanes-returns-clause-poured : goal.pour_lanes-returns-clause-poured
 pour_lanes-returns-clause-poured g t c = λ xs whole held.
-    let zs = at_place c.args.values.now.origin (run_or_listed c.args.values.now.run c.args.values.now.listed.now) in
+    let zs = inner_items c.args.values.now in
     let past : length zs ≤ c.loop-position.position =
     omega (arith, c.loop-position-test.false, c.count-count.ensures) in
     subst (λ (ys : List Item). Holds g.S.LongSink.has_taken c.args.line xs (whole ++ ys) c.loop-position.pending.items
@@ -319,3 +283,59 @@ feed_inner-returns-clause-fed g t c = λ xs took.
     let here = subst (λ (d : End). IsFed h xs (piped line (trace front.items d)) c.finish-2.result c.finish-2.new.sink)
     c.end-end.ensures (c.finish-2.ensures.fed xs front.items (c.loop-position.invariant.held xs took)) in
     subst (λ (u : Trace). IsFed h xs (piped line u) c.finish-2.result c.finish-2.new.sink) (sym whole) here
+
+pub pour-returns-in_err-stopped-clause-poured : goal.pour-returns-in_err-stopped-clause-poured
+pour-returns-in_err-stopped-clause-poured g t c = λ xs whole held.
+    let e = err_from_is_err_and c.from_residual.result c.from_residual.ensures.1 in
+    let zs = inner_items c.args.values.now in
+    rw e.1 (poured_stopped g.S.LongSink.has_taken c.args.line xs whole zs (Err c.in_err-stopped.field-0.0)
+    c.make_space.new.pending.items c.make_space.new.sink (λ e. cc) (c.in_err-stopped.ensures.poured xs whole held))
+
+pub pour-returns-in_default-2-clause-poured : goal.pour-returns-in_default-2-clause-poured
+pour-returns-in_default-2-clause-poured g t c = λ xs whole held.
+    let zs = inner_items c.args.values.now in
+    poured_stopped g.S.LongSink.has_taken c.args.line xs whole zs (Ok c.in_ok-stopped.stopped)
+    c.make_space.new.pending.items c.make_space.new.sink (λ e. c.in_default-2.not-More cc)
+    (c.in_ok-stopped.ensures.poured xs whole held)
+
+pub pour-returns-then-accept_run-clause-poured : goal.pour-returns-then-accept_run-clause-poured
+pour-returns-then-accept_run-clause-poured g t c = λ xs whole held.
+    let h = g.S.LongSink.has_taken in
+    let line = c.args.line in
+    let values = c.args.values.now in
+    let zs = inner_items values in
+    let last = none_left line.stages.now (sym c.is_empty.ensures ∙ c.if-is_empty.true) in
+    let pending = c.make_space.new.pending.items in
+    let poured = rw c.in-More.is at c.in_ok-stopped.ensures.poured in
+    let few : length pending ≤ 0 = c.in_ok-stopped.ensures.space (ap Ok c.in-More.is) in
+    let same = values_at_place values.origin (run_or_listed values.run values.listed.now)
+    ∙ ap (λ r. run_or_listed r values.listed.now) c.in-Some.is in
+    let all = taken_at_once h line xs whole zs pending c.make_space.new.sink c.accept_run.new.self last few
+    (poured xs whole held) (λ took. c.accept_run.ensures.taken c.if-accept_run.true (xs ++ whole) zs same took) in
+    let fed = c.asked.ensures.fed xs (piped line (trace (whole ++ zs) end.Done)) all in
+    subst (λ (ys : List Item). Poured h line xs (whole ++ zs) (Ok c.asked.result) ys c.asked.new.sink)
+    (sym (none_waits pending few)) (flushed h line xs (whole ++ zs) (Ok c.asked.result) c.asked.new.sink fed)
+
+pub pour-returns-then-takes_runs-clause-poured : goal.pour-returns-then-takes_runs-clause-poured
+pour-returns-then-takes_runs-clause-poured g t c = λ xs whole held.
+    let h = g.S.LongSink.has_taken in
+    let line = c.args.line in
+    let zs = inner_items c.args.values.now in
+    let last = none_left line.stages.now (sym c.is_empty.ensures ∙ c.if-is_empty.true) in
+    let pending = c.make_space.new.pending.items in
+    let poured = rw c.in-More.is at c.in_ok-stopped.ensures.poured in
+    let few : length pending ≤ 0 = c.in_ok-stopped.ensures.space (ap Ok c.in-More.is) in
+    let r = c.accept_each.result in
+    let s = c.accept_run.new.self in
+    let same = none_waits pending few in
+    let before : Holds h line xs whole pending s =
+    rw (c.accept_run.ensures.other c.if-accept_run.false) (poured xs whole held) in
+    let waits : Holds h line xs (whole ++ zs) zs s =
+    subst (λ (ys : List Item). Holds h line xs (whole ++ zs) (ys ++ zs) s)
+    same (holds_more h line xs whole pending zs s before) in
+    let here : (vs : List Item) → h s vs → IsFed h vs (piped line (trace zs end.Done)) r c.accept_each.new.sink =
+    λ vs took. subst (λ (u : Trace). IsFed h vs u r c.accept_each.new.sink)
+    (sym (unpiped line (trace zs end.Done) last)) (c.accept_each.ensures.fed vs took) in
+    let fed = holds_ended h line xs (whole ++ zs) zs end.Done r s c.accept_each.new.sink waits here in
+    subst (λ (ys : List Item). Poured h line xs (whole ++ zs) r ys c.accept_each.new.sink)
+    (sym same) (flushed h line xs (whole ++ zs) r c.accept_each.new.sink fed)

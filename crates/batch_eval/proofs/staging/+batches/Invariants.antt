@@ -1,11 +1,11 @@
 use Rattle.std.proofs.Common.{◌≡◌, ◌+◌, ◌*◌, ◌-◌, ◌≤◌, ◌++◌, List, length, take}
-use Rattle.lambda_values.specs.Streams.{inner_of, run_or_listed}
+use Rattle.lambda_values.specs.Streams.{inner_of}
 use Rattle.lambda_values.specs.declared.item.Item.{Item}
 use Rattle.trace.specs.declared.item.End.TheVariants as end
 use Rattle.trace.specs.declared.sink.Flow.TheVariants as flow
 use Rattle.trace.specs.Trace.{each}
-use Rattle.trace.specs.Stages.{at_place, flat_map, of_item, stages_of}
-use Rattle.batch_eval.specs.Pours.{Holds}
+use Rattle.trace.specs.Stages.{flat_map, of_item, stages_of}
+use Rattle.batch_eval.specs.Pours.{Holds, inner_items}
 use Rattle.batch_eval.specs.Rooms.{FitsStages}
 use Rattle.batch_eval.proofs.staging.+batches.Given as goal
 
@@ -20,9 +20,6 @@ decreases-finish g l = 6 * length l.line.stages.now + 1
 
 abbrev pub decreases-pour_lanes : goal.decreases-pour_lanes
 decreases-pour_lanes g l = 6 * length l.line.stages.now + 2
-
-abbrev pub decreases-pour_run : goal.decreases-pour_run
-decreases-pour_run g l = 6 * length l.line.stages.now + 3
 
 abbrev pub decreases-pour : goal.decreases-pour
 decreases-pour g l = 6 * length l.line.stages.now + 4
@@ -44,7 +41,7 @@ invariant-pour_lanes-loop-position g l =
       wants : g.S.LongSink.flow l.sink ≡ flow.More;
       held : (xs whole : List Item) → Holds g.S.LongSink.has_taken l.line xs whole l.initial.pending.items
           l.initial.sink → Holds g.S.LongSink.has_taken l.line xs
-          (whole ++ take l.position (at_place l.values.origin (run_or_listed l.values.run l.values.listed.now)))
+          (whole ++ take l.position (inner_items l.values))
           l.pending.items l.sink;
     }
 

@@ -1,11 +1,10 @@
-use Rattle.std.proofs.Common.{◌≡◌, ◌≤◌, ℤ, pos, Bool, if◌then◌else◌, List, add-one, ap, sym, ◌∙◌, subst, rules, arith}
+use Rattle.std.proofs.Common.{◌≤◌, add-one, ap, ◌∙◌, rules, arith}
 use Rattle.std.proofs.lemmas.List.{places, with_items_is}
-use Rattle.lambda_values.specs.Term.{long_of, truth_of}
-use Rattle.lambda_values.specs.Value.{long_value, truth_value}
-use Rattle.batch_eval.specs.Lanes.{Reaches, at, flagged}
-use Rattle.batch_eval.specs.Batches.{item_at}
+use Rattle.lambda_values.specs.Term.{long_of}
+use Rattle.lambda_values.specs.Value.{long_value}
+use Rattle.batch_eval.specs.Lanes.{at}
 use Rattle.batch_eval.proofs.RowLemmas.{reaches_lanes}
-use Rattle.batch_eval.proofs.SetItemLemmas.{filter_all, map_all}
+use Rattle.batch_eval.proofs.SetItemLemmas.{map_all}
 use Rattle.batch_eval.proofs.batch.Batch.+sift.Goals as goal
 
 pub returns-else-eval_long-self-clause-walk : goal.returns-else-eval_long-self-clause-walk
@@ -26,28 +25,9 @@ returns-else-eval_long-self-clause-walk t c =
     let on = rw (images, step, split.first, split.env, add-one) at c.sift.ensures.walk in
     rw (split.stages, c.in-Some-Map-default.field-0-0-is) on
 
-pub returns-else-eval_bool-self-clause-walk : goal.returns-else-eval_bool-self-clause-walk
-returns-else-eval_bool-self-clause-walk t c =
-    let b = c.self.inside in
+pub returns-else-not-clear_flags-clause-walk : goal.returns-else-not-clear_flags-clause-walk
+returns-else-not-clear_flags-clause-walk t c =
     let split = c.in-Some-Filter-default.ensures in
-    let test = truth_of c.in-Some-Filter-default.test in
-    let env = c.args.line.env.now in
-    let out = c.eval_bool.new.out in
-    let r = c.eval_bool.result in
-    let passes = c.deref-in-Some-Filter-default.result.now in
-    let passes_are : passes ≡ out = c.deref-in-Some-Filter-default.ensures.value
-    ∙ with_items_is b.spare out (search (rules, places)) in
-    let here = reaches_lanes b.start b.origins.items c.deref-2.result.now b.values.items c.deref.result.now c.of.result
-    c.of.ensures.place c.deref-2.ensures.value c.deref.ensures.value (λ x. flagged (truth_value test x env))
-    (at out) b.live r c.eval_bool.ensures in
-    let reaches = subst (λ (zs : List ℤ). Reaches
-    (λ k. flagged (truth_value test (item_at b.start b.origins.items b.values.items k) env)) (at zs) b.live r)
-    (sym passes_are) here in
-    let all : b.live ≤ r.live = omega (arith, c.if-eval_bool-self.false) in
-    let step = filter_all b.live b.start b.origins.items b.values.items c.args.flags.now b.end c.args.self.now env
-    c.args.line.first r test passes c.select.new.out reaches all
-    (λ k below. c.select.ensures k below
-    ∙ ap (λ (p : Bool). if p then at c.args.flags.now k else pos 0) (c.is_set-set.ensures (at passes k)))
-    c.self.view_is in
+    let step = c.clear_flags.ensures.cleared c.if-not-clear_flags.false in
     let on = rw (step, split.first, split.env, add-one) at c.sift-in-Some-Filter-default.ensures.walk in
     rw (split.stages, c.in-Some-Filter-default.field-0-0-is) on
