@@ -42,7 +42,8 @@ pub(crate) fn eval_chosen(
     requires out { inputs.live ≤ length out.old }
     requires room { FitsChosen (truth_of condition.now) either.chosen either.other (length room.old) }
     ensures { Reaches (at_each inputs.entry (λ x env. chosen_value (truth_value (truth_of condition.now) x env)
-        (operand_value either.entry.chosen x env) (operand_value either.entry.other x env))) (at out.new) inputs.entry.live result }
+        (operand_value either.entry.chosen x env) (operand_value either.entry.other x env))) (at out.new)
+        inputs.entry.live result }
 {
     if eval_tested(condition, either, inputs, out, room) {
         return all(inputs.live);
@@ -76,7 +77,8 @@ fn eval_tested(
     requires room { FitsChosen (truth_of condition.now) either.chosen either.other (length room.old) }
     ensures { IsTrue result → (k : ℕ) → k < inputs.entry.live
         → chosen_value (at_each inputs.entry (truth_value (truth_of condition.now)) k)
-        (at_each inputs.entry (operand_value either.entry.chosen) k) (at_each inputs.entry (operand_value either.entry.other) k)
+        (at_each inputs.entry (operand_value either.entry.chosen) k)
+        (at_each inputs.entry (operand_value either.entry.other) k)
         ≡ Ok (at out.new k) }
 {
     let Some(test) = lane_test(condition, inputs) else {
