@@ -173,14 +173,14 @@ put_more before pieces i place p k cells more h here so_far there grown =
     rw (name, all) (sym (with_pieces_more before pieces i place p h))
 
 -- the next piece is read, and starts where the one before it ends
-pub put_next : (l : Layout) (text : List ℕ) (columns : List NamedColumn) (from at width : ℕ) (pieces : List TextPiece)
+pub put_next : (l : Layout) (text : List ℕ) (columns : List NamedColumn) (at width : ℕ) (pieces : List TextPiece)
     (i : ℕ) (p : TextPiece) → width ≡ length columns
     → All (IsPieceThere l text width) pieces → i < length pieces → p ≡ get_or pieces i p → p.is_read ≡ true
     → p.from ≡ at
-    → AreReadBy l (drop from text) (drop at text) columns (append_pieces columns (take i pieces))
-    → (p.to ≤ length text) × AreReadBy l (drop from text) (drop p.to text) columns
+    → AreReadBy l text (drop at text) columns (append_pieces columns (take i pieces))
+    → (p.to ≤ length text) × AreReadBy l text (drop p.to text) columns
     (append_pieces columns (take (i + 1) pieces))
-put_next l text columns from at width pieces i p is all h here is_read starts so_far =
+put_next l text columns at width pieces i p is all h here is_read starts so_far =
     let one : IsPieceThere l text width p = rw (sym here) at (all i p h) in
     let there : IsPiece l text width p = one is_read in
     let before = append_pieces columns (take i pieces) in

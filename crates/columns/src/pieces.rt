@@ -124,67 +124,58 @@ pub(crate) fn read_in_turns<H: Threads + Sync>(
     let mut at = 0;
     // Each turn takes a byte at least.
     for _ in 0..text.len() {
-        if at == text.len() {
+        let rest = &text[at..];
+        if rest.is_empty() {
             break;
         }
-        read_pieces(rt, text, at, bytes, layout, pieces, columns.len());
-        let (count, next) = pieces_in_line(text, at, pieces);
-        if next <= at {
+        read_pieces(rt, rest, bytes, layout, pieces, columns.len());
+        let (count, read) = pieces_in_line(rest, pieces);
+        if read == 0 {
             break;
         }
         if !put_pieces(rt, &pieces[..count], columns) {
             return Err(AllocError);
         }
-        at = next;
+        at += read;
     }
     Ok(at)
 }
 
-/// Reads the pieces from place `from` on.
+/// Reads the pieces at the start of a text.
 fn read_pieces<H: Threads + Sync>(
     rt: &H,
     text: &[u8],
-    from: usize,
     bytes: usize,
     layout: &Layout,
     pieces: &mut [TextPiece],
     width: usize,
 )
-    requires within { from ≤ length text.now }
-    requires fits { Fits layout.now width }
+    requires { Fits layout.now width }
     ensures { All (IsPieceThere layout.now text.now width) pieces.new }
 {
     let count = pieces.len().max(1);
     let read = |index: usize, piece: &mut TextPiece|
-        requires { (from ≤ length text.now) × Fits layout.now width }
+        requires { Fits layout.now width }
         ensures { IsPieceThere layout.entry.now text.entry.now width piece.new }
-    { read_piece(text, from, index, bytes, layout, width, piece) };
+    { read_piece(text, index, bytes, layout, width, piece) };
     thread::for_each_mut(rt, pieces, count, &read);
 }
 
-/// Reads the piece of this number of those from `from` on: from the first line that begins in it, until a row ends at
-/// its end or after it, or isn't plain. A piece of another width stays unread.
+/// Reads the piece of this number: from the first line that begins in it, until a row ends at its end or after it, or
+/// isn't plain. A piece of another width stays unread.
 fn read_piece(
     text: &[u8],
-    from: usize,
     index: usize,
     bytes: usize,
     layout: &Layout,
     width: usize,
     piece: &mut TextPiece,
 )
-    requires within { from ≤ length text.now }
-    requires fits { Fits layout.now width }
+    requires { Fits layout.now width }
     ensures { IsPieceThere layout.now text.now width piece.new }
 {
-    let start = from
-        .saturating_add(index.saturating_mul(bytes))
-        .min(text.len());
-    let first = if index == 0 {
-        from
-    } else {
-        line_start(text, start)
-    };
+    let start = index.saturating_mul(bytes).min(text.len());
+    let first = line_start(text, start);
     let end = start.saturating_add(bytes).min(text.len());
     let to = line_start(text, end.max(first));
     piece.from = first;
@@ -222,23 +213,22 @@ fn line_start(text: &[u8], at: usize) -> usize
     ensures { (at ≤ result) × (result ≤ length text.now) }
 {
     for place in at..text.len() {
-        if place > 0 && text[place - 1] == b'\n' {
+        if place == 0 || text[place - 1] == b'\n' {
             return place;
         }
     }
     text.len()
 }
 
-/// How many pieces start where the one before them ends, the first one at `from`, and where the last of these ends.
-fn pieces_in_line(text: &[u8], from: usize, pieces: &[TextPiece]) -> (usize, usize)
-    requires within { from ≤ length text.now }
+/// How many pieces start where the one before them ends, the first one at 0, and where the last of these ends.
+fn pieces_in_line(text: &[u8], pieces: &[TextPiece]) -> (usize, usize)
     ensures read { (layout : Layout) (columns : List NamedColumn)
         → All (IsPieceThere layout text.now (length columns)) pieces.now
-        → AreReadBy layout (drop from text.now) (drop result.1 text.now)
-        columns (append_pieces columns (take result.0 pieces.now)) }
+        → AreReadBy layout text.now (drop result.1 text.now) columns
+        (append_pieces columns (take result.0 pieces.now)) }
     ensures within { (result.0 ≤ length pieces.now) × (result.1 ≤ length text.now) }
 {
-    let mut at = from;
+    let mut at = 0;
     for (count, piece) in pieces.iter().enumerate() {
         if !piece.is_read || piece.from != at || piece.to > text.len() {
             return (count, at);

@@ -1,9 +1,9 @@
 -- What a run is given and gives: its two files, its report, and the faults before the report is written.
 use Rattle.std.proofs.Common.{◌≡◌, ◌≢◌, ℕ, List, [], Bool, true, false, Option, Some, None, Result, Ok, Err, IfSome}
-use Rattle.std.proofs.Common.{IfErr, OnOk, refl, sym, ap, subst, ◌∙◌}
+use Rattle.std.proofs.Common.{IfErr, IfOk, OnOk, refl, sym, ap, subst, ◌∙◌}
 use Rattle.std.specs.Prelude.{◌||◌, ◌&&◌, nat_le, if◌then◌else◌}
 use Rattle.std.specs.Borrow.{MutBor}
-use Rattle.std.specs.Io.KnownBytes.{Keeps}
+use Rattle.std.specs.Io.KnownBytes.{IsAtEnd, Keeps}
 use Rattle.columns.specs.declared.fault.ColumnFault.{ColumnFault}
 use Rattle.columns.specs.declared.fault.ColumnFault.TheVariants as column
 use Rattle.columns.specs.Layouts.{IsAnswerBy}
@@ -11,10 +11,11 @@ use Rattle.columns.specs.TableForms.{AbstractForm, cells_by}
 use Rattle.tables.specs.Table.{NamedColumn}
 use Rattle.job_names.specs.JobNames.{names_of_texts}
 use Rattle.run_settings.specs.Asked.{Asked}
+use Rattle.counted_io.specs.FailureCounts.{HasRisen}
 use Rattle.stream_tokens.specs.JobTexts.{job_texts_within, version_within}
 use Rattle.engine.specs.declared.fault.EngineFault.{EngineFault}
 use Rattle.engine.specs.declared.fault.EngineFault.TheVariants.{Columns, Jobs, JobsRead, NoMemory, Write}
-use Rattle.engine.specs.Given.{HoldsOver, HoldsWith, IsFile, IsGiven, IsWhole}
+use Rattle.engine.specs.Given.{CountedBytes, HoldsOver, HoldsWith, IsAnswered, IsFile, IsGiven, IsLeft, IsSent, IsWhole}
 use Rattle.engine.specs.Refused.{IsCutShort, IsEarly, IsUnread}
 use Rattle.engine.specs.Run.{Input, Faulted, HasColumns, IsReport, Says, columns_by, form_for, form_with, reads_by_jobs}
 
@@ -124,25 +125,10 @@ unread_early (Jobs f) unread = absurd unread
 unread_early JobsRead unread = tt
 unread_early NoMemory unread = tt
 
--- a fault after which nothing was written says this of the input
-pub unwritten_fault : (input : Input) (before after : Option (List ℕ)) (f : EngineFault) → Says input f
-    → ((n : ℕ) → f ≢ Write n) → Keeps before after → Faulted input before after f
-unwritten_fault input before after (Columns f) says unwritten keeps = (says, keeps)
-unwritten_fault input before after (Write n) says unwritten keeps = absurd says
-unwritten_fault input before after (Jobs f) says unwritten keeps = (says, keeps)
-unwritten_fault input before after JobsRead says unwritten keeps = (says, keeps)
-unwritten_fault input before after NoMemory says unwritten keeps = (says, keeps)
-
 -- a write of the report failed
-pub cut_fault : (input : Input) (report : List ℕ) (before after : Option (List ℕ)) (f : EngineFault)
+cut_fault : (input : Input) (report : List ℕ) (before after : Option (List ℕ)) (f : EngineFault)
     → IsReport input report → IsCutShort report before after f → Faulted input before after f
 cut_fault input report before after f is (n, fault, short, appends) = rw fault (report, is, short, appends)
-
-pub early_no_columns : (f : EngineFault) (cause : ColumnFault) → IsEarly f → f ≢ Columns cause
-early_no_columns f cause early is = subst IsEarly is early
-
-pub early_no_write : (f : EngineFault) (n : ℕ) → IsEarly f → f ≢ Write n
-early_no_write f n early is = subst IsEarly is early
 
 -- ---- the run
 
@@ -161,20 +147,6 @@ given_with remaining columns jobs asked table P t (bytes, whole, holds) = (
   holds t.file (t.gives bytes),
 )
 
-pub ok_with : {C X : Type 0} (remaining : C → Option (List ℕ)) (columns : Option (MutBor C)) (jobs : Option (List ℕ))
-    (asked : Asked) (table : List NamedColumn) (r : Result X EngineFault) (P : Input → Type 0)
-    → HasTable remaining columns asked table → OnOk r (HoldsWith table jobs asked P)
-    → OnOk r ((input : Input) × IsGiven remaining columns jobs asked input × P input)
-ok_with remaining columns jobs asked table (Ok x) P t h = given_with remaining columns jobs asked table P t h
-ok_with remaining columns jobs asked table (Err f) P t h = tt
-
-pub err_with : {C X : Type 0} (remaining : C → Option (List ℕ)) (columns : Option (MutBor C)) (jobs : Option (List ℕ))
-    (asked : Asked) (table : List NamedColumn) (r : Result X EngineFault) (P : EngineFault → Input → Type 0)
-    → HasTable remaining columns asked table → IfErr r (λ f. HoldsWith table jobs asked (P f))
-    → IfErr r (λ f. (input : Input) × IsGiven remaining columns jobs asked input × P f input)
-err_with remaining columns jobs asked table (Ok x) P t h = tt
-err_with remaining columns jobs asked table (Err f) P t h = given_with remaining columns jobs asked table (P f) t h
-
 -- what holds of two readers holds of what the run is given
 given_over : {C : Type 0} (remaining : C → Option (List ℕ)) (columns : Option (MutBor C)) (reader : MutBor C)
     (jobs : Option (List ℕ)) (asked : Asked) (P : Input → Type 0) → columns ≡ Some reader
@@ -186,17 +158,140 @@ given_over remaining columns reader jobs asked P is (file, whole, bytes, jobs_wh
   holds,
 )
 
-pub ok_over : {C X : Type 0} (remaining : C → Option (List ℕ)) (columns : Option (MutBor C)) (reader : MutBor C)
-    (jobs : Option (List ℕ)) (asked : Asked) (r : Result X EngineFault) (P : Input → Type 0) → columns ≡ Some reader
-    → OnOk r (HoldsOver (remaining reader.now) jobs asked P)
-    → OnOk r ((input : Input) × IsGiven remaining columns jobs asked input × P input)
-ok_over remaining columns reader jobs asked (Ok x) P is h = given_over remaining columns reader jobs asked P is h
-ok_over remaining columns reader jobs asked (Err f) P is h = tt
+-- ---- a report, and what is sent of it
 
-pub err_over : {C X : Type 0} (remaining : C → Option (List ℕ)) (columns : Option (MutBor C)) (reader : MutBor C)
-    (jobs : Option (List ℕ)) (asked : Asked) (r : Result X EngineFault) (P : EngineFault → Input → Type 0)
-    → columns ≡ Some reader
-    → IfErr r (λ f. HoldsOver (remaining reader.now) jobs asked (P f))
-    → IfErr r (λ f. (input : Input) × IsGiven remaining columns jobs asked input × P f input)
-err_over remaining columns reader jobs asked (Ok x) P is h = tt
-err_over remaining columns reader jobs asked (Err f) P is h = given_over remaining columns reader jobs asked (P f) is h
+-- what holds before a report is written: it is the report of an input that the run is given, or a fault says something
+-- of one
+pub record IsMade {C : Type 0} (remaining : C → Option (List ℕ)) (columns : Option (MutBor C)) (asked : Asked)
+    (jobs jobs_after : CountedBytes) (made : Result (List ℕ) EngineFault) : Type 0 where
+  pub ok : IfOk made (λ report. (input : Input) × IsGiven remaining columns jobs.bytes asked input
+      × IsReport input report)
+  pub err : IfErr made (λ fault. (input : Input) × IsGiven remaining columns jobs.bytes asked input × Says input fault)
+  pub end : OnOk made (IsAtEnd jobs_after.bytes)
+  pub unread : reads_by_jobs asked ≡ false → IfErr made (λ fault. (cause : ColumnFault) → fault ≢ Columns cause)
+  pub read_failed : IfErr made (λ fault. fault ≡ JobsRead → HasRisen jobs.failures jobs_after.failures)
+
+module _ {C : Type 0} (remaining : C → Option (List ℕ)) (columns : Option (MutBor C)) (asked : Asked)
+    (jobs jobs_after : CountedBytes) where
+  -- over columns that are read as the job file asks
+  pub made_over : (made : Result (List ℕ) EngineFault) (reader : MutBor C) → columns ≡ Some reader
+      → reads_by_jobs asked ≡ true
+      → IfOk made (λ report. HoldsOver (remaining reader.now) jobs.bytes asked (λ input. IsReport input report))
+      → IfErr made (λ fault. HoldsOver (remaining reader.now) jobs.bytes asked (λ input. Says input fault))
+      → OnOk made (IsAtEnd jobs_after.bytes)
+      → IfErr made (λ fault. fault ≡ JobsRead → HasRisen jobs.failures jobs_after.failures)
+      → IsMade remaining columns asked jobs jobs_after made
+  made_over (Ok report) reader is by_jobs ok err end failed = record {
+    ok = given_over remaining columns reader jobs.bytes asked (λ input. IsReport input report) is ok;
+    err = tt;
+    end = end;
+    unread = λ before. tt;
+    read_failed = tt;
+  }
+  made_over (Err f) reader is by_jobs ok err end failed = record {
+    ok = tt;
+    err = given_over remaining columns reader jobs.bytes asked (λ input. Says input f) is err;
+    end = tt;
+    unread = λ before. absurd (let e : true ≡ false = sym by_jobs ∙ before in cc);
+    read_failed = failed;
+  }
+
+  -- with the columns of a file that was read before
+  pub made_with : (made : Result (List ℕ) EngineFault) (table : List NamedColumn)
+      → HasTable remaining columns asked table
+      → IfOk made (λ report. HoldsWith table jobs.bytes asked (λ input. IsReport input report))
+      → IfErr made (λ fault. HoldsWith table jobs.bytes asked (λ input. Says input fault))
+      → OnOk made (IsAtEnd jobs_after.bytes) → IfErr made IsEarly
+      → IfErr made (λ fault. fault ≡ JobsRead → HasRisen jobs.failures jobs_after.failures)
+      → IsMade remaining columns asked jobs jobs_after made
+  made_with (Ok report) table has ok err end early failed = record {
+    ok = given_with remaining columns jobs.bytes asked table (λ input. IsReport input report) has ok;
+    err = tt;
+    end = end;
+    unread = λ before. tt;
+    read_failed = tt;
+  }
+  made_with (Err f) table has ok err end early failed = record {
+    ok = tt;
+    err = given_with remaining columns jobs.bytes asked table (λ input. Says input f) has err;
+    end = tt;
+    unread = λ before cause is. subst IsEarly is early;
+    read_failed = failed;
+  }
+
+-- a fault that says something of an input is no failed write
+says_no_write : (input : Input) (f : EngineFault) (n : ℕ) → Says input f → f ≢ Write n
+says_no_write input f n says is = subst (Says input) is says
+
+-- nothing was written after this fault
+unwritten : (input : Input) (before after : Option (List ℕ)) (f : EngineFault) → Says input f → Keeps before after
+    → Faulted input before after f
+unwritten input before after (Columns f) says keeps = (says, keeps)
+unwritten input before after (Write n) says keeps = absurd says
+unwritten input before after (Jobs f) says keeps = (says, keeps)
+unwritten input before after JobsRead says keeps = (says, keeps)
+unwritten input before after NoMemory says keeps = (says, keeps)
+
+-- the run after what was made is sent
+pub run_of : {C X : Type 0} {remaining : C → Option (List ℕ)} {columns : Option (MutBor C)} {asked : Asked}
+    {jobs jobs_after : CountedBytes} (before after : CountedBytes) (made : Result (List ℕ) EngineFault)
+    (answer : Result X EngineFault) → IsMade remaining columns asked jobs jobs_after made
+    → IsSent made before after answer → IsAnswered remaining columns jobs.bytes asked before.bytes after.bytes answer
+    × IsLeft asked jobs jobs_after before after answer
+run_of before after (Ok report) (Ok x) known sent = (
+  ((known.ok.0, known.ok.1, (report, known.ok.2, sent)), tt),
+  record {
+    read_up = known.end;
+    unread = λ first. tt;
+    unwritten = tt;
+    untouched = tt;
+    read_failed = tt;
+    write_failed = tt;
+  },
+)
+run_of before after (Ok report) (Err f) known (short, risen) =
+    let (n, is, few, appends) = short in (
+      (tt, (known.ok.0, known.ok.1, cut_fault known.ok.0 report before.bytes after.bytes f known.ok.2 short)),
+      record {
+        read_up = tt;
+        unread = λ first cause other. absurd (let e : Write n ≡ Columns cause = sym is ∙ other in cc);
+        unwritten = λ none. absurd (none n is);
+        untouched = λ none. absurd (none n is);
+        read_failed = λ other. absurd (let e : Write n ≡ JobsRead = sym is ∙ other in cc);
+        write_failed = λ m other. risen;
+      },
+    )
+run_of before after (Err f) (Ok x) known sent = absurd sent
+run_of before after (Err f) (Err back) known (is, keeps, same) =
+    let (input, given, says) = known.err in
+    rw is (
+      (tt, (input, given, unwritten input before.bytes after.bytes f says keeps)),
+      record {
+        read_up = tt;
+        unread = λ first cause other. absurd (known.unread first cause other);
+        unwritten = λ none. keeps;
+        untouched = λ none. same;
+        read_failed = known.read_failed;
+        write_failed = λ n other. absurd (says_no_write input f n says other);
+      },
+    )
+
+-- what is known before a report is written is known after it
+pub sent_ok : {X : Type 0} (made : Result (List ℕ) EngineFault) (before after : CountedBytes)
+    (answer : Result X EngineFault) (P : Type 0) → IsSent made before after answer → OnOk made P → OnOk answer P
+sent_ok (Ok report) before after (Ok x) P sent h = h
+sent_ok made before after (Err f) P sent h = tt
+sent_ok (Err f) before after (Ok x) P sent h = absurd sent
+
+pub sent_columns : {X : Type 0} (made : Result (List ℕ) EngineFault) (before after : CountedBytes)
+    (answer : Result X EngineFault) (P : Type 0) → IsSent made before after answer
+    → IfErr made (λ fault. fault ≡ Columns column.Read → P) → IfErr answer (λ fault. fault ≡ Columns column.Read → P)
+sent_columns made before after (Ok x) P sent h = tt
+sent_columns (Ok report) before after (Err f) P (short, risen) h =
+    λ is. absurd (let e : Write short.0 ≡ Columns column.Read = sym short.1 ∙ is in cc)
+sent_columns (Err f) before after (Err back) P (same, keeps, failures) h = λ is. h (sym same ∙ is)
+
+pub early_columns : (made : Result (List ℕ) EngineFault) (P : Type 0) → IfErr made IsEarly
+    → IfErr made (λ fault. fault ≡ Columns column.Read → P)
+early_columns (Ok report) P early = tt
+early_columns (Err f) P early = λ is. absurd (subst IsEarly is early)

@@ -1,7 +1,8 @@
 -- Condition: what the readers of a run hold, and whether a read of the column file failed.
-use Rattle.std.specs.Prelude.{◌≡◌, ◌≢◌, ℕ, ◌⊎◌, ⊤, false, List, Option, Some, None, IfSome, Result, Ok, IfErr, OnOk}
+use Rattle.std.specs.Prelude.{◌≡◌, ◌≢◌, ℕ, ◌⊎◌, ⊤, false, List, Option, Some, None, IfSome, Result, Ok, Err}
+use Rattle.std.specs.Prelude.{IfErr, OnOk}
 use Rattle.std.specs.Borrow.{MutBor}
-use Rattle.std.specs.Io.KnownBytes.{IsAtEnd, Keeps}
+use Rattle.std.specs.Io.KnownBytes.{Appends, IsAtEnd, Keeps}
 use Rattle.std.proofs.Common.{inl, inr}
 use Rattle.columns.specs.declared.fault.ColumnFault.{ColumnFault}
 use Rattle.tables.specs.Table.{NamedColumn}
@@ -9,6 +10,7 @@ use Rattle.run_settings.specs.Asked.{Asked}
 use Rattle.counted_io.specs.FailureCounts.{HasRisen}
 use Rattle.engine.specs.declared.fault.EngineFault.{EngineFault}
 use Rattle.engine.specs.declared.fault.EngineFault.TheVariants.{Columns, JobsRead, Write}
+use Rattle.engine.specs.Refused.{IsCutShort}
 use Rattle.engine.specs.Run.{Faulted, Input, Reported, columns_by, form_for, reads_by_jobs}
 
 -- these are the bytes that a reader has left, if it is known which these are
@@ -66,6 +68,21 @@ IsAnswered remaining columns jobs asked before after answer =
 pub record CountedBytes : Type 0 where
   pub bytes : Option (List ℕ)
   pub failures : ℕ
+
+-- this of a reader or a writer, by what says its bytes and what counts its failures
+abbrev pub counted : {A : Type 0} → (A → Option (List ℕ)) → (A → ℕ) → A → CountedBytes
+counted bytes failures x = record { bytes = bytes x; failures = failures x }
+
+-- a writer took all of a report, or a fault says how much of it; without a report its fault came back, and nothing was
+-- written
+abbrev pub IsSent : {X : Type 0} → Result (List ℕ) EngineFault → CountedBytes → CountedBytes → Result X EngineFault
+    → Type 0
+IsSent (Ok report) before after (Ok x) = Appends before.bytes after.bytes report
+IsSent (Ok report) before after (Err fault) =
+    IsCutShort report before.bytes after.bytes fault × HasRisen before.failures after.failures
+IsSent (Err fault) before after (Ok x) = ⊥
+IsSent (Err fault) before after (Err back) =
+    (back ≡ fault) × Keeps before.bytes after.bytes × (after.failures ≡ before.failures)
 
 -- what a run leaves of the reader of jobs and of its writer, after this answer: after a report the job file is read up;
 -- after the refusal of a column file that is read first it is as it was; if no write failed nothing was written; and a

@@ -1,12 +1,13 @@
 //! A run: from the bytes of the column file and of the job file to the bytes of the report.
 
 ghost use Rattle.counted_io.specs.FailureCounts.{HasRisen};
-ghost use Rattle.engine.specs.Given.{HasRisenThere, HoldsOver, HoldsWith, IsAtEndThere, IsGiven, IsWhole};
-ghost use Rattle.engine.specs.Refused.{IsCutShort, IsEarly, IsUnread};
+ghost use Rattle.engine.specs.Given.{HasRisenThere, HoldsOver, HoldsWith, IsAtEndThere, IsGiven, IsSent, IsWhole};
+ghost use Rattle.engine.specs.Given.{counted};
+ghost use Rattle.engine.specs.Refused.{IsEarly, IsUnread};
 ghost use Rattle.engine.specs.Run.{Faulted, Input, IsReport, Reported, Says, reads_by_jobs};
 ghost use Rattle.run_settings.specs.Asked.{asked_of};
-ghost use Rattle.std.specs.Io.KnownBytes.{Appends, IsAtEnd, Keeps};
-ghost use Rattle.std.specs.Prelude.{◌≡◌, ◌≢◌, ℕ, false, true, IfErr, IfOk, OnErr, OnOk};
+ghost use Rattle.std.specs.Io.KnownBytes.{IsAtEnd, Keeps};
+ghost use Rattle.std.specs.Prelude.{◌≡◌, ◌≢◌, ℕ, false, true, IfErr, IfOk, OnOk};
 
 use crate::fault::EngineFault;
 use crate::gate::RunGate;
@@ -80,63 +81,36 @@ pub fn run<
     match columns {
         Some(reader) => {
             if reads_by_jobs(settings) {
-                return run_named(rt, alloc, reader, jobs, writer, settings, gate);
+                let report = report_named(rt, alloc, reader, jobs, settings, gate);
+                return send(writer, report, gate);
             }
             let table = match read_table(rt, alloc, reader, settings, Vec::new(alloc)) {
                 Ok(table) => table,
                 Err(fault) => return Err(EngineFault::Columns(fault)),
             };
-            run_with(rt, alloc, table, jobs, writer, settings, gate)
+            let report = report_from(rt, alloc, table, jobs, settings, gate);
+            send(writer, report, gate)
         }
-        None => run_with(rt, alloc, Columns::none(), jobs, writer, settings, gate),
+        None => {
+            let report = report_from(rt, alloc, Columns::none(), jobs, settings, gate);
+            send(writer, report, gate)
+        }
     }
-}
-
-/// The run from the job file on, with these columns.
-fn run_with<H: Threads + Wait + Sync, J: CountedRead, W: CountedWrite, G: RunGate + Sync>(
-    rt: &H,
-    alloc: Global,
-    columns: Columns,
-    jobs: &mut J,
-    writer: &mut W,
-    settings: &Settings,
-    gate: &G,
-) -> Result<(), EngineFault>
-    ensures report { OnOk result (HoldsWith columns (J.remaining jobs.old) (asked_of settings.now)
-        (λ input. Reported input (W.contents writer.old) (W.contents writer.new))) }
-    ensures fault { IfErr result (λ fault. HoldsWith columns (J.remaining jobs.old) (asked_of settings.now)
-        (λ input. Faulted input (W.contents writer.old) (W.contents writer.new) fault)) }
-    ensures read_up { OnOk result (IsAtEnd (J.remaining jobs.new)) }
-    ensures columns { IfErr result (λ fault. (cause : ColumnFault) → fault ≢ EngineFault.Columns cause) }
-    ensures unwritten { IfErr result (λ fault. ((n : ℕ) → fault ≢ EngineFault.Write n) →
-        Keeps (W.contents writer.old) (W.contents writer.new)) }
-    ensures untouched { IfErr result (λ fault. ((n : ℕ) → fault ≢ EngineFault.Write n) →
-        W.failures writer.new ≡ W.failures writer.old) }
-    ensures read_failed { IfErr result (λ fault. fault ≡ EngineFault.JobsRead →
-        HasRisen (J.failures jobs.old) (J.failures jobs.new)) }
-    ensures write_failed { IfErr result (λ fault. (n : ℕ) → fault ≡ EngineFault.Write n →
-        HasRisen (W.failures writer.old) (W.failures writer.new)) }
-{
-    let report = match report_from(rt, alloc, &columns, jobs, settings, gate) {
-        Ok(report) => report,
-        Err(fault) => return Err(fault),
-    };
-    send(writer, &report, gate)
 }
 
 /// The report of the job file that this reader has left, with these columns.
 fn report_from<H: Threads + Wait + Sync, J: CountedRead, G: RunGate + Sync>(
     rt: &H,
     alloc: Global,
-    columns: &Columns,
+    columns: Columns,
     jobs: &mut J,
     settings: &Settings,
     gate: &G,
 ) -> Result<Report, EngineFault>
-    ensures ok { IfOk result (λ report. HoldsWith columns.now (J.remaining jobs.old) (asked_of settings.now)
+    ensures ok { IfOk result (λ report. HoldsWith columns (J.remaining jobs.old) (asked_of settings.now)
         (λ input. IsReport input report)) }
     ensures end { OnOk result (IsAtEnd (J.remaining jobs.new)) }
-    ensures err { IfErr result (λ fault. HoldsWith columns.now (J.remaining jobs.old) (asked_of settings.now)
+    ensures err { IfErr result (λ fault. HoldsWith columns (J.remaining jobs.old) (asked_of settings.now)
         (λ input. Says input fault)) }
     ensures early { IfErr result IsEarly }
     ensures read_failed { IfErr result (λ fault. fault ≡ EngineFault.JobsRead →
@@ -146,51 +120,10 @@ fn report_from<H: Threads + Wait + Sync, J: CountedRead, G: RunGate + Sync>(
         Ok(bytes) => bytes,
         Err(fault) => return Err(fault),
     };
-    report_of(rt, alloc, columns, &bytes, settings, gate)
+    report_of(rt, alloc, &columns, &bytes, settings, gate)
 }
 
-/// The run where how the columns are read depends on the job file: it is read first.
-fn run_named<
-    H: Threads + Wait + Sync,
-    C: CountedRead,
-    J: CountedRead,
-    W: CountedWrite,
-    G: RunGate + Sync,
->(
-    rt: &H,
-    alloc: Global,
-    columns: &mut C,
-    jobs: &mut J,
-    writer: &mut W,
-    settings: &Settings,
-    gate: &G,
-) -> Result<(), EngineFault>
-    requires { reads_by_jobs (asked_of settings.now) ≡ true }
-    ensures report { OnOk result (HoldsOver (C.remaining columns.old) (J.remaining jobs.old) (asked_of settings.now)
-        (λ input. Reported input (W.contents writer.old) (W.contents writer.new))) }
-    ensures fault { IfErr result (λ fault. HoldsOver (C.remaining columns.old) (J.remaining jobs.old)
-        (asked_of settings.now) (λ input. Faulted input (W.contents writer.old) (W.contents writer.new) fault)) }
-    ensures read_up { OnOk result (IsAtEnd (J.remaining jobs.new)) }
-    ensures columns_read_up { OnOk result (IsAtEnd (C.remaining columns.new)) }
-    ensures unwritten { IfErr result (λ fault. ((n : ℕ) → fault ≢ EngineFault.Write n) →
-        Keeps (W.contents writer.old) (W.contents writer.new)) }
-    ensures untouched { IfErr result (λ fault. ((n : ℕ) → fault ≢ EngineFault.Write n) →
-        W.failures writer.new ≡ W.failures writer.old) }
-    ensures columns_failed { IfErr result (λ fault. fault ≡ EngineFault.Columns ColumnFault.Read →
-        HasRisen (C.failures columns.old) (C.failures columns.new)) }
-    ensures read_failed { IfErr result (λ fault. fault ≡ EngineFault.JobsRead →
-        HasRisen (J.failures jobs.old) (J.failures jobs.new)) }
-    ensures write_failed { IfErr result (λ fault. (n : ℕ) → fault ≡ EngineFault.Write n →
-        HasRisen (W.failures writer.old) (W.failures writer.new)) }
-{
-    let report = match report_named(rt, alloc, columns, jobs, settings, gate) {
-        Ok(report) => report,
-        Err(fault) => return Err(fault),
-    };
-    send(writer, &report, gate)
-}
-
-/// The report of the job file that this reader has left, over columns that are read as it asks.
+/// The report of the job file that this reader has left, which is read first, over columns that are read as it asks.
 fn report_named<H: Threads + Wait + Sync, C: CountedRead, J: CountedRead, G: RunGate + Sync>(
     rt: &H,
     alloc: Global,
@@ -206,7 +139,6 @@ fn report_named<H: Threads + Wait + Sync, C: CountedRead, J: CountedRead, G: Run
         (asked_of settings.now) (λ input. Says input fault)) }
     ensures end { OnOk result (IsAtEnd (J.remaining jobs.new)) }
     ensures columns_end { OnOk result (IsAtEnd (C.remaining columns.new)) }
-    ensures unwritten { IfErr result (λ fault. (n : ℕ) → fault ≢ EngineFault.Write n) }
     ensures columns_failed { IfErr result (λ fault. fault ≡ EngineFault.Columns ColumnFault.Read →
         HasRisen (C.failures columns.old) (C.failures columns.new)) }
     ensures read_failed { IfErr result (λ fault. fault ≡ EngineFault.JobsRead →
@@ -241,18 +173,21 @@ fn jobs_of<J: CountedRead>(alloc: Global, jobs: &mut J) -> Result<Vec<u8>, Engin
     }
 }
 
-/// Writes a report, after a word to the gate.
+/// Writes a report, if there is one, after a word to the gate.
 fn send<W: CountedWrite, G: RunGate>(
     writer: &mut W,
-    report: &Report,
+    report: Result<Report, EngineFault>,
     gate: &G,
 ) -> Result<(), EngineFault>
-    ensures ok { OnOk result (Appends (W.contents writer.old) (W.contents writer.new) report.now) }
-    ensures err { IfErr result (IsCutShort report.now (W.contents writer.old) (W.contents writer.new)) }
-    ensures failed { OnErr result (HasRisen (W.failures writer.old) (W.failures writer.new)) }
+    ensures { IsSent report (counted W.contents W.failures writer.old) (counted W.contents W.failures writer.new)
+        result }
 {
+    let report = match report {
+        Ok(report) => report,
+        Err(fault) => return Err(fault),
+    };
     gate.before_report();
-    match write_report(writer, report) {
+    match write_report(writer, &report) {
         Ok(()) => Ok(()),
         Err(WriteFault { written }) => Err(EngineFault::Write { written }),
     }

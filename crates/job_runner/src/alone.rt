@@ -30,11 +30,9 @@ fn walk_whole<S: JobLegs>(
     jobs.leaf(alloc, all, input, scratch, &mut Never)
 }
 
-/// Walks all legs of a job, each as one piece. It enters the gate once, for all of the job's source. `size` is how many
-/// positions that has.
-fn walk_alone<'x, S: JobLegs, G: Gate>(
+/// Walks all legs of a job, each as one piece. `size` is how many positions the job's source has.
+fn walk_alone<'x, S: JobLegs>(
     alloc: Global,
-    gate: &G,
     jobs: &S,
     job: usize,
     given: &'x S::Given,
@@ -46,7 +44,6 @@ fn walk_alone<'x, S: JobLegs, G: Gate>(
     requires size { size ≡ S.run.size job 0 }
     ensures { IfOk result (λ answer. S.run.is_answer job answer) }
 {
-    gate.at_leaf(job, 0, size);
     let last = jobs.last_leg(job);
     let mut scratch = jobs.scratch(alloc);
     let mut size = size;
@@ -73,7 +70,8 @@ fn walk_alone<'x, S: JobLegs, G: Gate>(
     jobs.answer(alloc, job, part, input, &mut scratch)
 }
 
-/// Works a job out after the jobs before it, and calls the gate.
+/// Works a job out after the jobs before it. It calls the gate before the walk, once for all of the job's source, and
+/// after the answer.
 pub(crate) fn answer_alone<S: JobLegs, G: Gate>(
     alloc: Global,
     gate: &G,
@@ -86,7 +84,8 @@ pub(crate) fn answer_alone<S: JobLegs, G: Gate>(
 {
     let answer = match jobs.given(alloc, job, earlier)? {
         Begun::Walk { given, size } => {
-            walk_alone(alloc, gate, jobs, job, &given, size, earlier)?
+            gate.at_leaf(job, 0, size);
+            walk_alone(alloc, jobs, job, &given, size, earlier)?
         }
         Begun::Known(answer) => answer,
     };

@@ -18,7 +18,7 @@ use std::alloc::Global;
 use std::marker::Brand;
 use std::sync::Wait;
 use std::thread::Threads;
-use worker_pool::{Gate, Work, run_pool};
+use worker_pool::{Gate, run_pool};
 
 /// The answer that lies in the job's place. If there is none, it is worked out from the answers of the jobs before it.
 fn read_answer<S: JobLegs, G: Gate>(
@@ -61,25 +61,6 @@ fn read_answers<S: JobLegs, G: Gate>(
     Ok(answers)
 }
 
-/// Has workers run the tasks, if there are workers: this many at most.
-fn run_tasks<W: Work, H: Threads + Wait + Sync, G: Gate + Sync>(
-    rt: &H,
-    alloc: Global,
-    gate: &G,
-    work: &W,
-    tasks: Vec<W::Task>,
-    mut idles: Vec<W::Idle>,
-    most: usize,
-)
-where
-    W::Task: Drop,
-{
-    idles.truncate(most);
-    if !idles.is_empty() {
-        run_pool(rt, alloc, gate, work, tasks, idles);
-    }
-}
-
 /// Runs the jobs over one table of counts, and gives back their places.
 fn run_on<
     S: JobLegs + Send + Sync,
@@ -108,11 +89,13 @@ where
     requires planned { (R.jobs ≡ S.run.jobs) × ((j : ℕ) → R.last j ≡ S.run.last j)
         × ((j k : ℕ) → R.size j k ≡ S.run.size j k) }
 {
-    let (work, tasks, idles) = TableWork::<S, R>::new(alloc, jobs, settings, opened)?;
+    let (work, tasks, mut idles) = TableWork::<S, R>::new(alloc, jobs, settings, opened)?;
     // Each task begins a job or has a node.
     let nodes = work.nodes.counts.nodes() as usize;
-    let most = workers_worth(jobs, settings).min(nodes.saturating_add(tasks.len()));
-    run_tasks(rt, alloc, gate, &work, tasks, idles, most);
+    idles.truncate(workers_worth(jobs, settings).min(nodes.saturating_add(tasks.len())));
+    if !idles.is_empty() {
+        run_pool(rt, alloc, gate, &work, tasks, idles);
+    }
     Ok(work.places)
 }
 

@@ -4,7 +4,7 @@ ghost use Rattle.std.specs.Io.KnownBytes.{IsAtEnd};
 ghost use Rattle.std.specs.Prelude.{◌≡◌, IfErr, OnOk, Result, Some, ⊤};
 ghost use Rattle.columns.specs.declared.fault.ColumnFault.TheVariants as column_fault;
 ghost use Rattle.counted_io.specs.FailureCounts.{HasRisen};
-ghost use Rattle.engine.specs.Given.{HasRisenThere, IsAnswered, IsAtEndThere, IsLeft};
+ghost use Rattle.engine.specs.Given.{HasRisenThere, IsAnswered, IsAtEndThere, IsLeft, counted};
 ghost use Rattle.engine.specs.Statuses.{status_after};
 ghost use Rattle.engine.specs.declared.fault.EngineFault.{EngineFault as meant_fault};
 ghost use Rattle.engine.specs.declared.fault.EngineFault.TheVariants as meant;
@@ -21,8 +21,6 @@ use std::thread::Threads;
 ///
 /// The status is the status after an answer of the run over these readers and this writer, with all clauses of `run`.
 pub fn ended_run<H: Threads + Wait + Sync, C: CountedRead, J: CountedRead, W: CountedWrite>(
-    rt: &HostRuntime,
-    threads: &H,
     columns: Option<&mut C>,
     jobs: &mut J,
     writer: &mut W,
@@ -35,32 +33,29 @@ pub fn ended_run<H: Threads + Wait + Sync, C: CountedRead, J: CountedRead, W: Co
         × OnOk answer (IsAtEndThere C.remaining columns.entry columns.exit)
         × IfErr answer (λ fault. fault ≡ meant.Columns column_fault.Read →
         HasRisenThere C.failures columns.entry columns.exit)
-        × IsLeft (asked_of settings.now) (record { bytes = J.remaining jobs.old; failures = J.failures jobs.old })
-        (record { bytes = J.remaining jobs.new; failures = J.failures jobs.new })
-        (record { bytes = W.contents writer.old; failures = W.failures writer.old })
-        (record { bytes = W.contents writer.new; failures = W.failures writer.new }) answer }
+        × IsLeft (asked_of settings.now) (counted J.remaining J.failures jobs.old)
+        (counted J.remaining J.failures jobs.new) (counted W.contents W.failures writer.old)
+        (counted W.contents W.failures writer.new) answer }
 {
     match columns {
-        Some(reader) => ended_over(rt, threads, reader, jobs, writer, settings, progress),
+        Some(reader) => ended_over(reader, jobs, writer, settings, progress),
         None => {
             let answer = run(
-                threads,
-                rt.alloc(),
+                progress.threads,
+                progress.host.alloc(),
                 columns,
                 jobs,
                 writer,
                 settings,
                 progress,
             );
-            status_shown(rt, &answer, progress)
+            status_shown(&answer, progress)
         }
     }
 }
 
 /// The run over a column file. What becomes of a reader is known to the prover where it is there, not where it may be.
 fn ended_over<H: Threads + Wait + Sync, C: CountedRead, J: CountedRead, W: CountedWrite>(
-    rt: &HostRuntime,
-    threads: &H,
     columns: &mut C,
     jobs: &mut J,
     writer: &mut W,
@@ -73,31 +68,26 @@ fn ended_over<H: Threads + Wait + Sync, C: CountedRead, J: CountedRead, W: Count
         × OnOk answer (IsAtEnd (C.remaining columns.new))
         × IfErr answer (λ fault. fault ≡ meant.Columns column_fault.Read →
         HasRisen (C.failures columns.old) (C.failures columns.new))
-        × IsLeft (asked_of settings.now) (record { bytes = J.remaining jobs.old; failures = J.failures jobs.old })
-        (record { bytes = J.remaining jobs.new; failures = J.failures jobs.new })
-        (record { bytes = W.contents writer.old; failures = W.failures writer.old })
-        (record { bytes = W.contents writer.new; failures = W.failures writer.new }) answer }
+        × IsLeft (asked_of settings.now) (counted J.remaining J.failures jobs.old)
+        (counted J.remaining J.failures jobs.new) (counted W.contents W.failures writer.old)
+        (counted W.contents W.failures writer.new) answer }
 {
     let answer = run(
-        threads,
-        rt.alloc(),
+        progress.threads,
+        progress.host.alloc(),
         Some(columns),
         jobs,
         writer,
         settings,
         progress,
     );
-    status_shown(rt, &answer, progress)
+    status_shown(&answer, progress)
 }
 
 /// The exit status after this answer, once the line of the run is wiped; after a fault its line is on standard error.
-fn status_shown<H: Wait>(
-    rt: &HostRuntime,
-    answer: &Result<(), EngineFault>,
-    progress: &Progress<'_, H>,
-) -> u8
+fn status_shown<H: Wait>(answer: &Result<(), EngineFault>, progress: &Progress<'_, H>) -> u8
     ensures { result ≡ status_after answer.now }
 {
     progress.end();
-    status_after(answer, &mut rt.stderr())
+    status_after(answer, &mut progress.host.stderr())
 }

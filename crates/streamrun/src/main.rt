@@ -208,8 +208,6 @@ fn watched_run<H: Threads + Wait + Sync>(rt: &HostRuntime, threads: &H, given: G
         } = given;
         let mut writer = CountedOut::new(rt.stdout());
         let status = ended_run(
-            rt,
-            threads,
             columns.as_mut(),
             &mut jobs,
             &mut writer,

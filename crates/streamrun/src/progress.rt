@@ -71,8 +71,8 @@ fn elapsed(seconds: u64) -> (u64, &'static str) {
 /// The gate of a run, which counts what the run enters.
 #[derive(Drop)]
 pub struct Progress<'a, H> {
-    host: &'a HostRuntime,
-    threads: &'a H,
+    pub(crate) host: &'a HostRuntime,
+    pub(crate) threads: &'a H,
     started: Option<Instant>,
     /// Empty if standard error is no terminal: then nothing is counted.
     jobs: Vec<JobProgress>,

@@ -5,7 +5,7 @@ use crate::gate::Gate;
 use crate::pause::Bell;
 use crate::queues::{Queues, TaskFinder, queues_of};
 use crate::work::Work;
-use crate::worker::{Worker, begin, work_on};
+use crate::worker::{Pool, Worker};
 use deques::Inbox;
 use std::alloc::Global;
 use std::sync::Wait;
@@ -13,102 +13,85 @@ use std::thread;
 use std::thread::{Scope, Threads};
 use std::vec::IntoIter;
 
-/// Where the workers find tasks: the caller, and the others in turn; and what wakes them.
-#[derive(Drop)]
-struct Finders<'a, F> {
-    bell: &'a Bell,
-    mine: F,
-    others: IntoIter<F>,
-}
-
-/// Starts a thread for each worker from number 2 on, as long as something is left, and as far as threads can be made.
-fn start<'s, E, R: Wait + Sync, W: Work, G: Gate + Sync, F: TaskFinder<W::Task> + Send + Drop>(
-    scope: &Scope<'s, E>,
-    rt: &'s R,
-    gate: &'s G,
-    work: &'s W,
-    bell: &'s Bell,
-    idle: IntoIter<W::Idle>,
-    finders: IntoIter<F>,
-)
+impl<'s, R: Wait + Sync, W: Work, G: Gate + Sync> Pool<'s, R, W, G>
 where
     W::Task: Drop,
-    F: 's,
-    W: 's,
 {
-    for (number, (idle, finder)) in (2..).zip(idle.zip(finders)) {
-        let (idle, left) = work.left(rt, idle);
-        if left == 0 {
-            return;
-        }
-        let worker = Worker {
-            number,
-            idle,
-            finder,
-        };
-        let _ = scope.spawn(move || {
-            work_on(rt, gate, work, bell, worker);
-        });
-    }
-}
-
-/// Runs the tasks on the workers. Worker 0 is the caller. It starts a thread for worker 1, which starts the threads of
-/// the others: so the caller is at work at once, and a short run is over before it has all threads.
-fn run_workers<
-    R: Threads + Wait + Sync,
-    W: Work,
-    G: Gate + Sync,
-    F: TaskFinder<W::Task> + Send + Drop,
->(
-    rt: &R,
-    gate: &G,
-    work: &W,
-    first: Vec<W::Task>,
-    idle: Vec<W::Idle>,
-    finders: Finders<'_, F>,
-) -> W::Idle
-where
-    W::Task: Drop,
-    requires { 0 < vec_len idle }
-    ensures over { W.is_over work.now result }
-    ensures mine { IfSome (slice_get idle.items 0) (λ i. W.owner_of result ≡ W.owner_of i) }
-{
-    thread::scope(
-        thread::scope_env(),
-        rt,
-        move |scope| -> W::Idle
-            requires { 0 < vec_len idle }
-            ensures { W.is_over work.entry.now result × IfSome (slice_get idle.items 0)
-                (λ i. W.owner_of result ≡ W.owner_of i) }
-        {
-            let Finders {
-                bell,
-                mut mine,
-                mut others,
-            } = finders;
-            let mut idle = idle.into_iter();
-            let Some(my_idle) = idle.next() else {
-                unreachable!()
-            };
-            if let (Some(its_idle), Some(finder)) = (idle.next(), others.next()) {
-                let second = Worker {
-                    number: 1,
-                    idle: its_idle,
-                    finder,
-                };
-                let _ = scope.spawn(move || {
-                    start(scope, rt, gate, work, bell, idle, others);
-                    work_on(rt, gate, work, bell, second);
-                });
-            }
-            let me = Worker {
-                number: 0,
-                idle: begin(rt, gate, work, my_idle, first, &mut mine),
-                finder: mine,
-            };
-            work_on(rt, gate, work, bell, me)
-        },
+    /// Starts a thread for each worker from number 2 on, as long as something is left, and as far as threads can be
+    /// made.
+    fn start<E, F: TaskFinder<W::Task> + Send + Drop>(
+        self,
+        scope: &Scope<'s, E>,
+        idle: IntoIter<W::Idle>,
+        finders: IntoIter<F>,
     )
+    where
+        F: 's,
+        W: 's,
+    {
+        for (number, (idle, finder)) in (2..).zip(idle.zip(finders)) {
+            let (idle, left) = self.work.left(self.rt, idle);
+            if left == 0 {
+                return;
+            }
+            let worker = Worker {
+                number,
+                idle,
+                finder,
+            };
+            let _ = scope.spawn(move || {
+                self.work_on(worker);
+            });
+        }
+    }
+
+    /// Runs the tasks on the workers. Worker 0 is the caller. It starts a thread for worker 1, which starts the threads
+    /// of the others: so the caller is at work at once, and a short run is over before it has all threads.
+    fn run_workers<F: TaskFinder<W::Task> + Send + Drop>(
+        self,
+        first: Vec<W::Task>,
+        idle: Vec<W::Idle>,
+        mut mine: F,
+        mut others: IntoIter<F>,
+    ) -> W::Idle
+    where
+        R: Threads,
+        requires { 0 < vec_len idle }
+        ensures over { W.is_over self.entry.work.now result }
+        ensures mine { IfSome (slice_get idle.items 0) (λ i. W.owner_of result ≡ W.owner_of i) }
+    {
+        thread::scope(
+            thread::scope_env(),
+            self.rt,
+            move |scope| -> W::Idle
+                requires { 0 < vec_len idle }
+                ensures { W.is_over self.entry.work.now result × IfSome (slice_get idle.items 0)
+                    (λ i. W.owner_of result ≡ W.owner_of i) }
+            {
+                let mut idle = idle.into_iter();
+                let Some(my_idle) = idle.next() else {
+                    unreachable!()
+                };
+                if let (Some(its_idle), Some(finder)) = (idle.next(), others.next()) {
+                    let second = Worker {
+                        number: 1,
+                        idle: its_idle,
+                        finder,
+                    };
+                    let _ = scope.spawn(move || {
+                        self.start(scope, idle, others);
+                        self.work_on(second);
+                    });
+                }
+                let me = Worker {
+                    number: 0,
+                    idle: self.begin(my_idle, first, &mut mine),
+                    finder: mine,
+                };
+                self.work_on(me)
+            },
+        )
+    }
 }
 
 /// Runs the tasks of `first`, and the tasks that they push, with one worker for each `Idle`. The caller is worker 0,
@@ -130,12 +113,13 @@ where
 {
     let inbox = Inbox::new(alloc).ok().map(|made| made.0);
     let bell = Bell::new();
-    let mut all = queues_of(alloc, idle.len(), inbox.as_ref(), &bell).into_iter();
-    let mine = all.next().unwrap_or(Queues::none(alloc, &bell));
-    let finders = Finders {
+    let mut others = queues_of(alloc, idle.len(), inbox.as_ref(), &bell).into_iter();
+    let mine = others.next().unwrap_or(Queues::none(alloc, &bell));
+    let pool = Pool {
+        rt,
+        gate,
+        work,
         bell: &bell,
-        mine,
-        others: all,
     };
-    run_workers(rt, gate, work, first, idle, finders)
+    pool.run_workers(first, idle, mine, others)
 }

@@ -15,58 +15,63 @@ pub struct Worker<I, F> {
     pub finder: F,
 }
 
-/// Runs the tasks that it finds, until nothing is left.
-pub fn work_on<R: Wait, W: Work, G: Gate, F: TaskFinder<W::Task> + Drop>(
-    rt: &R,
-    gate: &G,
-    work: &W,
-    bell: &Bell,
-    worker: Worker<W::Idle, F>,
-) -> W::Idle
-    ensures over { W.is_over work.now result }
-    ensures same { W.owner_of result ≡ W.owner_of worker.idle }
-{
-    let Worker {
-        number,
-        mut idle,
-        mut finder,
-    } = worker;
-    let mut pause = Pause::new(bell);
-    for _ in rt.forever() {
-        if let Some(task) = finder.find(rt) {
-            idle = work.run(rt, number, gate, idle, task, &mut finder);
-            pause.reset();
-        } else {
-            let (asked, left) = work.left(rt, idle);
-            if left == 0 {
-                pause.reset();
-                bell.ring_all();
-                return asked;
-            }
-            idle = asked;
-            pause.wait(rt);
-        }
-    }
-    unreachable!()
+/// What all workers of a pool share.
+#[derive_where(Clone, Copy)]
+pub struct Pool<'a, R, W, G> {
+    pub rt: &'a R,
+    pub gate: &'a G,
+    pub work: &'a W,
+    pub bell: &'a Bell,
 }
 
-/// Puts the tasks into the inbox, and runs those that it doesn't take.
-pub fn begin<R: Wait, W: Work, G: Gate, F: TaskFinder<W::Task>>(
-    rt: &R,
-    gate: &G,
-    work: &W,
-    mut idle: W::Idle,
-    first: Vec<W::Task>,
-    finder: &mut F,
-) -> W::Idle
-where
-    W::Task: Drop,
-    ensures same { W.owner_of result ≡ W.owner_of idle }
-{
-    for task in first {
-        if let Err(task) = finder.put(rt, task) {
-            idle = work.run(rt, 0, gate, idle, task, finder);
+impl<R: Wait, W: Work, G: Gate> Pool<'_, R, W, G> {
+    /// Runs the tasks that a worker finds, until nothing is left.
+    pub fn work_on<F: TaskFinder<W::Task> + Drop>(self, worker: Worker<W::Idle, F>) -> W::Idle
+        ensures over { W.is_over self.entry.work.now result }
+        ensures same { W.owner_of result ≡ W.owner_of worker.idle }
+    {
+        let Worker {
+            number,
+            mut idle,
+            mut finder,
+        } = worker;
+        let mut pause = Pause::new(self.bell);
+        for _ in self.rt.forever() {
+            if let Some(task) = finder.find(self.rt) {
+                idle = self
+                    .work
+                    .run(self.rt, number, self.gate, idle, task, &mut finder);
+                pause.reset();
+            } else {
+                let (asked, left) = self.work.left(self.rt, idle);
+                if left == 0 {
+                    pause.reset();
+                    self.bell.ring_all();
+                    return asked;
+                }
+                idle = asked;
+                pause.wait(self.rt);
+            }
         }
+        unreachable!()
     }
-    idle
+
+    /// Puts the tasks into the inbox, and runs those that it doesn't take.
+    pub fn begin<F: TaskFinder<W::Task>>(
+        self,
+        mut idle: W::Idle,
+        first: Vec<W::Task>,
+        finder: &mut F,
+    ) -> W::Idle
+    where
+        W::Task: Drop,
+        ensures same { W.owner_of result ≡ W.owner_of idle }
+    {
+        for task in first {
+            if let Err(task) = finder.put(self.rt, task) {
+                idle = self.work.run(self.rt, 0, self.gate, idle, task, finder);
+            }
+        }
+        idle
+    }
 }

@@ -5,12 +5,12 @@ use Rattle.columns.proofs.TextRowLemmas.{AreReadIn-none}
 use Rattle.columns.proofs.pieces.pieces_in_line.Goals as goal
 
 pub loop-count-init : goal.loop-count-init
-loop-count-init c = (c.requires.within, λ layout columns all. AreReadIn-none _ _ _ _ columns)
+loop-count-init c = (omega arith, λ layout columns all. AreReadIn-none _ _ _ _ columns)
 
 pub loop-count-preserved : goal.loop-count-preserved
 loop-count-preserved c = (
   search rules,
-  λ layout columns all. (put_next layout c.args.text.now columns c.args.from c.loop-count.at _ c.args.pieces.now
+  λ layout columns all. (put_next layout c.args.text.now columns c.loop-count.at _ c.args.pieces.now
       c.loop-count.count c.index-pieces-count.result
       refl all c.loop-count-test.true c.index-pieces-count.is (search rules) (search rules)
       (c.loop-count.invariant.1 layout columns all)).1,

@@ -10,4 +10,4 @@ abbrev pub invariant-loop-count : goal.invariant-loop-count
 invariant-loop-count l =
     (l.at ≤ length l.text)
     × ((layout : Layout) (columns : List NamedColumn) → All (IsPieceThere layout l.text (length columns)) l.pieces
-    → AreReadBy layout (drop l.from l.text) (drop l.at l.text) columns (append_pieces columns (take l.count l.pieces)))
+    → AreReadBy layout l.text (drop l.at l.text) columns (append_pieces columns (take l.count l.pieces)))

@@ -1,6 +1,6 @@
-use Rattle.std.proofs.Common.{◌≡◌, All, length, map, arith, refl, rules, sym, take}
-use Rattle.std.proofs.lemmas.List.{length-map}
-use Rattle.columns.specs.Pieces.{IsPieceThere, append_pieces}
+use Rattle.std.proofs.Common.{◌≡◌, map, arith, refl, rules, sym, take}
+use Rattle.std.proofs.lemmas.List.{drop-drop, length-drop, length-map, take_rest}
+use Rattle.columns.specs.Pieces.{append_pieces}
 use Rattle.tables.specs.TableOfColumns.{named}
 use Rattle.columns.proofs.TextRowLemmas.{AreReadIn-join, AreReadIn-none}
 use Rattle.columns.proofs.pieces.read_in_turns.Goals as goal
@@ -11,13 +11,14 @@ loop-init g c = (omega arith, refl, AreReadIn-none _ _ _ _ _)
 pub loop-preserved : goal.loop-preserved
 loop-preserved g c =
     let (low, same, so_far) = c.loop.invariant in
+    let text = c.args.text.now in
     let columns = map named c.loop.columns in
-    let there : All (IsPieceThere c.args.layout.now c.args.text.now (length columns)) c.read_pieces.new.pieces =
-    rw (length-map c.loop.columns named) c.read_pieces.ensures in
-    let read = c.pieces_in_line-count.ensures.read c.args.layout.now columns there in
+    let read = c.pieces_in_line-count.ensures.read c.args.layout.now columns
+    (rw (length-map c.loop.columns named) c.read_pieces.ensures) in
     let put : map named c.put_pieces.new.columns
     ≡ append_pieces columns (take c.pieces_in_line-count.result.0 c.read_pieces.new.pieces) = search rules in (
-      c.pieces_in_line-count.ensures.within.1,
+      search (rules, length-drop),
       search rules,
-      AreReadIn-join _ _ _ _ _ _ _ _ _ so_far (rw (sym put) at read),
+      AreReadIn-join _ _ _ _ _ _ _ _ _ so_far
+          (rw (sym put, take_rest text c.loop.at, drop-drop c.pieces_in_line-count.result.1 c.loop.at text) at read),
     )

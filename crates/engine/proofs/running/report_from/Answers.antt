@@ -9,7 +9,7 @@ returns-in-Err-clause-err g c =
       whole.1,
       λ file given. unread_says
           (record { columns = file; jobs = whole.0; asked = asked_of c.args.settings.now }) c.in-Err.fault
-          c.in-Err.ensures.early (c.args.columns.now, given),
+          c.in-Err.ensures.early (c.args.columns, given),
     )
 
 pub returns-in-Err-clause-early : goal.returns-in-Err-clause-early

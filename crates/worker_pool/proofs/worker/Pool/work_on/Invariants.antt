@@ -1,5 +1,5 @@
 use Rattle.std.proofs.Common.{◌≡◌}
-use Rattle.worker_pool.proofs.worker.work_on.Given as goal
+use Rattle.worker_pool.proofs.worker.Pool.work_on.Given as goal
 
 abbrev pub invariant-loop : goal.invariant-loop
 invariant-loop g l =
