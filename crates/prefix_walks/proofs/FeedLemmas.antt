@@ -1,5 +1,5 @@
 -- Walks of items side by side.
-use Rattle.std.proofs.Common.{◌≡◌, List, [], ◌++◌, Result, Ok, refl, sym, ap, subst, ◌∙◌}
+use Rattle.std.proofs.Common.{◌≡◌, List, [], ◌++◌, Result, Ok, refl, sym, ap, subst, ◌∙◌, append_assoc}
 use Rattle.std.specs.declared.alloc.AllocError.{AllocError}
 use Rattle.std.proofs.lemmas.List.{append-nil}
 use Rattle.lambda_values.specs.declared.item.Item.{Item}
@@ -44,3 +44,23 @@ module _ {S : Type 0} (h : S → List Item → Type 0) (line : Pipeline) where
       (sym (ap (λ (us : List Item). piped line (trace us end.Done)) e
       ∙ pipe_ended line.first (stages_of line.stages.now) line.env.now end.Done))
       (subst (h s) (sym (append-nil xs)) took, refl)
+
+  -- some items after those so far, and what is left
+  pub fed_on : (xs ys zs rest all : List Item) (s s' : S) → ys ++ (zs ++ rest) ≡ all
+      → IsFed h xs (piped line (trace ys end.Done)) (Ok fed.More) s
+      → ((vs : List Item) → h s vs → IsFed h vs (piped line (trace zs end.Done)) (Ok fed.More) s')
+      → (us : List Item) × IsFed h xs (piped line (trace us end.Done)) (Ok fed.More) s' × (us ++ rest ≡ all)
+  fed_on xs ys zs rest all s s' e p later = (
+    ys ++ zs,
+    fed_both xs ys zs (ys ++ zs) (Ok fed.More) s s' refl p later,
+    append_assoc ys zs rest ∙ e,
+  )
+
+  -- some items after those so far, at which the walk was stopped
+  pub fed_last : (xs ys zs rest all : List Item) (r : Result Fed AllocError) (s s' : S) → ys ++ (zs ++ rest) ≡ all
+      → (r ≡ Ok fed.More → ⊥) → IsFed h xs (piped line (trace ys end.Done)) (Ok fed.More) s
+      → ((vs : List Item) → h s vs → IsFed h vs (piped line (trace zs end.Done)) r s')
+      → IsFed h xs (piped line (trace all end.Done)) r s'
+  fed_last xs ys zs rest all r s s' e stopped p later =
+      fed_both xs ys (zs ++ rest) all r s s' (sym e) p
+      (λ vs had. fed_stopped vs zs rest (zs ++ rest) r s' refl stopped (later vs had))

@@ -1,4 +1,4 @@
-//! A piece of a walk, scanned in a buffer and taken through stages.
+//! Pieces of a walk, scanned in a buffer, and what a buffer holds, taken through stages.
 
 ghost use Rattle.std.specs.Prelude.{◌≡◌, List, OnErr};
 ghost use Rattle.trace.specs.Sinks.{IsFed, flow_after};
@@ -28,27 +28,21 @@ pub(crate) struct Scan {
     pub(crate) start: Option<i64>,
 }
 
-/// Takes the items at these positions of a piece, scanned from its first item on.
-pub(crate) fn feed_piece<S: BatchSink>(
-    line: Pipeline<'_>,
-    scan: Scan,
-    piece: &FoldedPiece<'_>,
-    window: Window,
-    buffer: &mut PieceBuffer,
-    registers: &mut Registers,
-    sink: &mut S,
-) -> Result<Fed, NoMemory>
-    requires wants { S.flow sink.old ≡ Flow.More }
-    ensures fed { (xs : List item) → S.has_taken sink.old xs → IsFed S.has_taken xs
-        (piped line.entry (trace (elements window.from window.to (scan_at (value_of scan.prefix.op)
-        scan.prefix.range scan.position scan.start (items_of piece.now))) end.Done)) result sink.new }
-    ensures flow { S.flow sink.new ≡ flow_after result }
-    ensures refused { OnErr result S.takes_memory }
-{
-    let at = cut_to(scan.prefix.range, scan.position, piece.items.count() as u64);
-    piece.items.put(registers, buffer);
-    let _ = buffer.scan(scan.prefix.op, at, scan.start);
-    feed_buffer(line, buffer, window, registers, sink)
+impl Scan {
+    /// Puts the items of a piece into a buffer, scanned from its first item on.
+    pub(crate) fn put(
+        self,
+        piece: &FoldedPiece<'_>,
+        registers: &mut Registers,
+        buffer: &mut PieceBuffer,
+    )
+        ensures { buffer.new ≡ scan_at (value_of self.prefix.op) self.prefix.range self.position self.start
+            (items_of piece.now) }
+    {
+        let at = cut_to(self.prefix.range, self.position, piece.items.count() as u64);
+        piece.items.put(registers, buffer);
+        let _ = buffer.scan(self.prefix.op, at, self.start);
+    }
 }
 
 /// Takes the items at these positions of a buffer.

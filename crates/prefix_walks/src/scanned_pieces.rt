@@ -13,7 +13,7 @@ ghost use Rattle.prefix_walks.specs.Pieces.{elements};
 ghost use Rattle.prefix_walks.specs.Scans.{IsFolded, all_items, items_of, marks_of, mark};
 
 use crate::folded_piece::{FoldedPiece, PieceStart};
-use crate::folded_walk::{Scan, feed_piece};
+use crate::folded_walk::{Scan, feed_buffer};
 use crate::given::GivenWalk;
 use crate::kept::Kept;
 use crate::kept_items::feed_items;
@@ -124,32 +124,27 @@ fn feed_from<S: BatchSink>(
     ensures flow { S.flow sink.new ≡ flow_after result }
     ensures refused { OnErr result S.takes_memory }
 {
-    let mut position = scan.position;
-    let mut start = scan.start;
+    let mut here = scan;
     let mut left = window;
     let mut buffer = PieceBuffer::new();
     for piece in pieces {
         if is_over(left.to) {
             return Ok(Fed::More);
         }
-        let here = Scan {
-            prefix: scan.prefix,
-            position,
-            start,
-        };
-        match feed_piece(line, here, piece, left, &mut buffer, registers, sink)? {
+        here.put(piece, registers, &mut buffer);
+        match feed_buffer(line, &buffer, left, registers, sink)? {
             Fed::More => {}
             stopped => return Ok(stopped),
         }
         let size = piece.items.count() as u64;
-        start = piece.fold_from(
-            scan.prefix.op,
-            scan.prefix.range,
-            position,
-            start,
+        here.start = piece.fold_from(
+            here.prefix.op,
+            here.prefix.range,
+            here.position,
+            here.start,
             registers,
         );
-        position += size;
+        here.position += size;
         left = left.after(size);
     }
     Ok(Fed::More)
