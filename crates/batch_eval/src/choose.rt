@@ -8,11 +8,13 @@ ghost use Rattle.std.specs.Prelude.{◌≡◌, ℕ, ℤ, ◌<◌, ◌≤◌, IsT
 ghost use Rattle.std.specs.Prelude.{if◌then◌else◌};
 
 use crate::exact::lanes_pass;
-use crate::filtering::SAMPLE;
 use crate::flag::is_set;
 use crate::lanes::{Lanes, Register};
 use crate::number_test::NumberTest;
 use crate::reached::{Reached, all};
+
+/// How many flags are looked at to find out whether most are set, or whether some are.
+pub(crate) const SAMPLE: usize = 128;
 
 /// Whether a flag is as it is wanted.
 pub(crate) fn is_wanted(flag: i64, kind: bool) -> bool

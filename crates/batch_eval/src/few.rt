@@ -24,7 +24,7 @@ struct Put {
     next: usize,
 }
 
-/// The lanes from one on. Their places are counted up from the first lane's, or else listed.
+/// The lanes from `from` on. The places of all lanes are counted up from the first lane's, or else listed.
 #[derive(Clone, Copy)]
 struct Places<'a> {
     from: usize,

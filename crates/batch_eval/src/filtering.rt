@@ -15,7 +15,7 @@ ghost use Rattle.trace.specs.Trace.{each};
 
 use crate::batch::{Batch, stopped};
 use crate::cheap::is_cheap;
-use crate::choose::select;
+use crate::choose::{SAMPLE, select};
 use crate::in_place::lane_test;
 use crate::keep::keep_lanes;
 use crate::lanes::{Number, Own};
@@ -27,9 +27,6 @@ use crate::rows::Rows;
 use lambda_values::{BoolExpr, Connective};
 use std::mem;
 use trace::Stage;
-
-/// How many flags are looked at to find out whether most are set, or whether some are.
-pub(crate) const SAMPLE: usize = 128;
 
 /// Whether at least half of the first flags are set, up to 128. A flag that is set is -1: their sum needs no branch.
 fn most_are_set(flags: &[i64], live: usize) -> bool

@@ -145,7 +145,8 @@ fn feed_inner<S: BatchSink>(
 }
 
 /// Takes the values of an inner stream after those that wait: at once if they are integers in a row, no stage comes
-/// and the sink takes them so, else by adding them to those that wait.
+/// and the sink takes them so, else by adding them to those that wait. If such a sink refuses a run after all, it gets
+/// the items one by one.
 #[cycle(batches)]
 fn pour<S: BatchSink>(
     line: Pipeline<'_>,

@@ -110,6 +110,7 @@ pub fn read_columns_as<H: Threads + Sync, R: CountedRead>(
     ensures counts { R.failures reader.old ≤ R.failures reader.new }
 {
     let workers = workers.max(1);
+    // Of pieces without a byte a turn would read nothing.
     let piece = piece.max(1);
     let limit = workers.saturating_mul(piece).max(1);
     let team = Team { rt, workers, piece };

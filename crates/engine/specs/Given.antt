@@ -69,7 +69,7 @@ pub record CountedBytes : Type 0 where
   pub bytes : Option (List ℕ)
   pub failures : ℕ
 
--- this of a reader or a writer, by what says its bytes and what counts its failures
+-- the bytes and the failures of a reader or a writer
 abbrev pub counted : {A : Type 0} → (A → Option (List ℕ)) → (A → ℕ) → A → CountedBytes
 counted bytes failures x = record { bytes = bytes x; failures = failures x }
 
