@@ -1,11 +1,12 @@
 //! A piece of a segment's source, taken through the segment's stages to the part that its end wants.
 
-ghost use Rattle.std.specs.Prelude.{◌≡◌, true, IfOk, OnErr};
+ghost use Rattle.std.specs.Prelude.{◌≡◌, true, IfNone, IfOk, IfSome, OnErr};
 ghost use Rattle.trace.specs.Trace.{nothing};
 ghost use Rattle.prefix_walks.specs.Pieces.{IsNotAfter, piece_of};
 ghost use Rattle.job_plan.specs.Parts.{EndsFor, StandsEnough, StandsFor, end_keeps_items};
 ghost use Rattle.job_routes.specs.Legs.{end_in, number_after, segment_in};
 ghost use Rattle.job_plan.specs.Parts.{keeps_items, walk_in};
+ghost use Rattle.job_plan.specs.Stretches.{IsDecided};
 
 use crate::counted_part::counted_part;
 use crate::end_part::{EndPart, LastStage};
@@ -53,31 +54,36 @@ pub fn leaf_until<'p, W: Stop>(
         return Ok(part);
     }
     let none = with_room(alloc, &leg.last, walked, window);
-    leaf_until_as::<Brand, W>(alloc, none, &leg.last, walked, window, registers, stop)
+    match part_until::<Brand, W>(none, &leg.last, walked, window, registers, stop)? {
+        Some(part) => Ok(part),
+        None => Ok(unwalked(alloc, leg, walked.env)),
+    }
 }
 
-/// The part that `leaf_until` gives, after a given part, for an end whose type contracts can name.
-fn leaf_until_as<'p, K: EndBrand, W: Stop>(
-    alloc: Global,
+/// The part of the items at these positions after a part without items, for an end whose type contracts can name.
+/// `None` says that the walk was left.
+fn part_until<'p, K: EndBrand, W: Stop>(
     part: Part<'p>,
     segment: &'p Segment,
     walked: Walked,
     window: Window,
     registers: &mut Registers,
     stop: &mut W,
-) -> Result<Part<'p>, NoMemory>
+) -> Result<Option<Part<'p>>, NoMemory>
     requires last { segment.now.end ≡ K.last }
     requires stage { number_after segment.now.stages ≡ K.stage }
     requires env { walked.env.now ≡ K.env }
     requires begun { part ≡ K.begun }
     requires none { EndsFor (end_in segment.now.end) (number_after segment.now.stages) walked.env.now part nothing }
     requires ordered { IsNotAfter window.from window.to }
-    ensures stands { IfOk result (λ made. StandsEnough (W.decides stop.old) (segment_in segment.now)
-        walked.entry.env.now made window.from (piece_of window.from window.to (walk_in walked.entry.source))) }
+    ensures stands { IfOk result (λ found. IfSome found (λ made. StandsEnough (W.decides stop.old)
+        (segment_in segment.now) walked.entry.env.now made window.from
+        (piece_of window.from window.to (walk_in walked.entry.source)))) }
+    ensures left { IfOk result (λ found. IfNone found (IsDecided (W.decides stop.old) window.from)) }
     ensures memory { OnErr result (keeps_items part.entry ≡ true) }
 {
     if part.is_settled() {
-        return Ok(part);
+        return Ok(Some(part));
     }
     let sink = PartSink::<K> {
         part,
@@ -91,7 +97,7 @@ fn leaf_until_as<'p, K: EndBrand, W: Stop>(
     let line = segment.stages.pipeline(walked.env);
     let ended = feed_until(&walked.source, line, window, registers, sink, stop)?;
     let Some((taken, fed)) = ended else {
-        return Ok(Part::none(alloc, segment, walked.env));
+        return Ok(None);
     };
     let mut sink = taken;
     match fed {
@@ -99,7 +105,7 @@ fn leaf_until_as<'p, K: EndBrand, W: Stop>(
         Fed::Fault(fault) => sink.part.end_with(End::Fault(fault)),
         Fed::Enough => {}
     }
-    Ok(sink.part)
+    Ok(Some(sink.part))
 }
 
 /// The part of a piece that isn't walked. It takes no memory.

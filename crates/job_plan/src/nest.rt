@@ -38,21 +38,34 @@ pub(crate) struct Chain<'p> {
     pub(crate) pass_all: &'p Link,
 }
 
+/// A link of a walk: what comes to it, and the stages after it.
+#[derive(Clone, Copy)]
+struct LastLink<'p> {
+    before: Chain<'p>,
+    link: &'p Link,
+    next: Pipeline<'p>,
+}
+
 impl<'p> Chain<'p> {
-    /// The last link, and the chain up to its stages.
-    fn before(self) -> Option<(&'p Link, Chain<'p>)>
-        ensures fewer { IfSome result (λ before. length before.1.links.now < length self.entry.links.now) }
-        ensures walk { IfSome result (λ before. (t : Trace)
+    /// The last link.
+    fn split_last(self) -> Option<LastLink<'p>>
+        ensures fewer { IfSome result (λ last. length last.before.links.now < length self.entry.links.now) }
+        ensures walk { IfSome result (λ last. (t : Trace)
             → linked (links_in self.entry.links.now) self.entry.line.env.now t
-            ≡ sliced (slice_of before.0.now.slice) (number_after before.0.now.stages)
-            self.entry.line.env.now (piped before.1.line (linked (links_in before.1.links.now)
+            ≡ sliced (slice_of last.link.now.slice) (number_after last.link.now.stages)
+            self.entry.line.env.now (piped last.before.line (linked (links_in last.before.links.now)
             self.entry.line.env.now t))) }
-        ensures passes { IfSome result (λ before. before.1.pass_all.now ≡ self.entry.pass_all.now) }
-        ensures env { IfSome result (λ before. before.1.line.env.now ≡ self.entry.line.env.now) }
+        ensures passes { IfSome result (λ last. last.before.pass_all.now ≡ self.entry.pass_all.now) }
+        ensures env { IfSome result (λ last. last.before.line.env.now ≡ self.entry.line.env.now) }
+        ensures next { IfSome result (λ last. last.next ≡ self.entry.line) }
         ensures none { IfNone result (self.entry.links.now ≡ []) }
     {
         match self.links.split_last() {
-            Some((link, links)) => Some((link, self.up_to(links, link))),
+            Some((link, links)) => Some(LastLink {
+                before: self.up_to(links, link),
+                link,
+                next: self.line,
+            }),
             None => None,
         }
     }
@@ -130,10 +143,8 @@ impl<N: Nest> Nest for Next<N> {
         registers: &mut Registers,
         sink: S,
     ) -> Result<S::Made, NoMemory> {
-        match chain.before() {
-            Some((link, before)) => {
-                feed_link::<Brand, N, S>(alloc, link, before, chain.line, source, registers, sink)
-            }
+        match chain.split_last() {
+            Some(last) => feed_link::<Brand, N, S>(alloc, last, source, registers, sink),
             None => feed_source(chain.line, source, registers, sink),
         }
     }
@@ -149,37 +160,37 @@ impl<N: Nest> Nest for Inner<N> {
         registers: &mut Registers,
         sink: S,
     ) -> Result<S::Made, NoMemory> {
-        let Some((link, before)) = chain.before() else {
-            let link = chain.pass_all;
-            let before = chain.up_to(chain.links, link);
-            return feed_link::<Brand, N, S>(
-                alloc, link, before, chain.line, source, registers, sink,
-            );
+        let Some(last) = chain.split_last() else {
+            let last = LastLink {
+                before: chain.up_to(chain.links, chain.pass_all),
+                link: chain.pass_all,
+                next: chain.line,
+            };
+            return feed_link::<Brand, N, S>(alloc, last, source, registers, sink);
         };
-        feed_link::<Brand, N, S>(alloc, link, before, chain.line, source, registers, sink)
+        feed_link::<Brand, N, S>(alloc, last, source, registers, sink)
     }
 }
 
-/// Wraps `sink` in a slice, with the stages of `next` after it, and feeds it what comes through a chain.
+/// Wraps `sink` in the slice of a link, with the stages after it, and feeds it what comes to the link.
 fn feed_link<K: LinkBrand, N: Nest, S: Closing>(
     alloc: Global,
-    link: &Link,
-    before: Chain,
-    next: Pipeline<'_>,
+    last: LastLink,
     source: &Source,
     registers: &mut Registers,
     sink: S,
 ) -> Result<S::Made, NoMemory>
-    requires slice { slice_of link.now.slice ≡ K.rest }
-    requires stage { number_after link.now.stages ≡ K.stage }
-    requires next { line_in next ≡ K.next }
-    requires env { next.env.now ≡ K.env }
-    requires few { length before.links.now ≤ N.depth }
-    requires passes { link_in before.pass_all.now ≡ open_link }
+    requires slice { slice_of last.link.now.slice ≡ K.rest }
+    requires stage { number_after last.link.now.stages ≡ K.stage }
+    requires next { line_in last.next ≡ K.next }
+    requires env { last.next.env.now ≡ K.env }
+    requires few { length last.before.links.now ≤ N.depth }
+    requires passes { link_in last.before.pass_all.now ≡ open_link }
     requires begun { S.has_taken sink [] }
-    ensures { IfOk result (λ made. S.stands made (through_link K.rest K.stage K.next K.env (piped before.entry.line
-        (linked (links_in before.entry.links.now) before.entry.line.env.now (walk_in source.now))))) }
+    ensures { IfOk result (λ made. S.stands made (through_link K.rest K.stage K.next K.env (piped last.entry.before.line
+        (linked (links_in last.entry.before.links.now) last.entry.before.line.env.now (walk_in source.now))))) }
 {
+    let LastLink { before, link, next } = last;
     let rest = SliceRest::of(&link.slice);
     let passing = Passing {
         rest,

@@ -64,13 +64,21 @@ fn walk_route(
         ≡ legs_answer (plan_in job.now).legs env.now (source_walk (sources_of job.now.sources.items))) }
 {
     let source = Source::of_sources(&job.sources);
+    let walked = Walked { source, env };
     let (Some(side), Some((leg, later))) = (job.search, job.scans.split_first()) else {
-        return walk_legs(alloc, &job.scans, &job.last, source, tree, env, registers);
+        return walk_legs(alloc, &job.scans, &job.last, walked, tree, registers);
     };
-    let answer = walk_leg(alloc, leg, source, tree, env, registers)?.answer();
+    let answer = walk_leg(alloc, leg, walked, tree, registers)?.answer();
     let given = Given::searched(&job.sources, leg, side, answer);
-    let left = Source::of_given(&given);
-    walk_legs(alloc, later, &job.last, left, tree, env, registers)
+    let source = Source::of_given(&given);
+    walk_legs(
+        alloc,
+        later,
+        &job.last,
+        Walked { source, env },
+        tree,
+        registers,
+    )
 }
 
 /// The answer of a job, each leg in one piece. For other programs, as `walk_tree`.
@@ -85,43 +93,37 @@ fn walk_legs<'p>(
     alloc: Global,
     scans: &'p [Leg],
     last: &'p Leg,
-    source: Source<'_, 'p, '_>,
+    walked: Walked<'_, 'p, '_, '_>,
     tree: &SplitTree,
-    env: &Env,
     registers: &mut Registers,
 ) -> Result<Answer, NoMemory>
     ensures { IfOk result (λ answer. answer
-        ≡ legs_answer (record { search = None; scans = legs_in scans.now; last = leg_in last.now }) env.now
-        (walk_in source.entry)) }
+        ≡ legs_answer (record { search = None; scans = legs_in scans.now; last = leg_in last.now })
+        walked.entry.env.now (walk_in walked.entry.source)) }
 {
     let Some((leg, later)) = scans.split_first() else {
-        let outcome = walk_leg(alloc, last, source, tree, env, registers)?;
+        let outcome = walk_leg(alloc, last, walked, tree, registers)?;
         return Ok(outcome.answer());
     };
-    let given = Given::walk(walk_leg(alloc, leg, source, tree, env, registers)?.walk());
-    walk_legs(
-        alloc,
-        later,
-        last,
-        Source::of_given(&given),
-        tree,
-        env,
-        registers,
-    )
+    let given = Given::walk(walk_leg(alloc, leg, walked, tree, registers)?.walk());
+    let source = Source::of_given(&given);
+    let env = walked.env;
+    walk_legs(alloc, later, last, Walked { source, env }, tree, registers)
 }
 
 /// What a leg makes of its source, in the pieces of a tree if it goes through no slices.
 fn walk_leg<'p>(
     alloc: Global,
     leg: &'p Leg,
-    source: Source<'_, 'p, '_>,
+    walked: Walked<'_, 'p, '_, '_>,
     tree: &SplitTree,
-    env: &Env,
     registers: &mut Registers,
 ) -> Result<Outcome<'p>, NoMemory>
-    ensures { IfOk result (λ outcome. outcome ≡ leg_outcome (leg_in leg.now) env.now (walk_in source.entry)) }
+    ensures { IfOk result (λ outcome. outcome
+        ≡ leg_outcome (leg_in leg.now) walked.entry.env.now (walk_in walked.entry.source)) }
 {
-    let source = source.of_leg(leg);
+    let env = walked.env;
+    let source = walked.source.of_leg(leg);
     let walked = Walked { source, env };
     if !leg.streams() {
         let all = Window { from: 0, to: None };

@@ -18,7 +18,6 @@ use Rattle.job_routes.specs.Legs.{AbstractLegs, leg_among, leg_outcome, leg_walk
 use Rattle.job_routes.specs.Legs.{scanned_from}
 use Rattle.job_routes.specs.Legs.{searched, sums_many}
 use Rattle.job_routes.specs.declared.route.PlaceSide.{PlaceSide}
-use Rattle.job_meaning.specs.declared.answer.Answer.{Answer}
 use Rattle.job_plan.proofs.EnoughLemmas.{whole_enough}
 use Rattle.job_plan.proofs.PartLemmas.{other_ends, settled_decides}
 use Rattle.prefix_walks.specs.Pieces.{IsNotAfter, piece_of}

@@ -116,7 +116,7 @@ impl<'a, 'c, P: PlanBrand> JobLegs for PlanJobs<'a, 'c, P> {
         requires earlier { (j : ℕ) (a : answers) → E.is_answer j a → a ≡ answer_of (plans_in P.jobs) j }
         ensures { IfOk result (λ part. Stands (run_of (plans_in P.jobs)) piece part) }
     {
-        self.part(alloc, piece, false, input, registers, stop)
+        self.part(alloc, piece, input, registers, Some(stop))
     }
 
     fn merge(_cut: CutPiece, left: Part<'a>, right: Part<'a>) -> Result<Part<'a>, NoMemory> {
@@ -173,7 +173,7 @@ impl<'a, 'c, P: PlanBrand> JobLegs for PlanJobs<'a, 'c, P> {
             from: 0,
             to: input.size,
         };
-        let again = self.part(alloc, all, true, input, registers, &mut Never)?;
+        let again = self.part::<E, Never>(alloc, all, input, registers, None)?;
         match job_answer(alloc, plan, again, input.given)? {
             Some(answer) => Ok(answer),
             None => unreachable!(),

@@ -55,31 +55,34 @@ fn end_of(piece: Piece, source: &Source) -> Option<u64>
     }
 }
 
-/// Walks a piece of a leg, as far as it matters. With `in_order`, or if the leg goes through slices, the piece is all
+/// Walks a piece of a leg, as far as it matters. Without `stop`, or if the leg goes through slices, the piece is all
 /// of the leg, and is walked in one go from its first item on.
 pub(crate) fn walked_piece<'a, W: Stop>(
     alloc: Global,
     plan: &'a JobPlan,
     piece: Piece,
-    in_order: bool,
     walked: Walked<'_, 'a, '_, '_>,
     registers: &mut Registers,
-    stop: &mut W,
+    stop: Option<&mut W>,
 ) -> Result<Part<'a>, NoMemory>
     requires ordered { piece.from ≤ piece.to }
     ensures stands { (chain : AbstractChain) → chain.legs ≡ (plan_in plan.now).legs
         → chain.numbers ≡ walked.entry.env.now
         → walk_in walked.entry.source ≡ given_at chain piece.leg → piece.to ≤ size_at chain piece.leg
-        → (in_order ≡ true → (piece.from ≡ 0) × (piece.to ≡ size_at chain piece.leg))
-        → ((c : ℕ) → W.decides stop.old c → Decides (gives_at chain piece.leg) (walk_at chain piece.leg) c)
+        → IfNone stop.entry ((piece.from ≡ 0) × (piece.to ≡ size_at chain piece.leg))
+        → IfSome stop.entry (λ known. (c : ℕ) → W.decides known.now c
+        → Decides (gives_at chain piece.leg) (walk_at chain piece.leg) c)
         → IfOk result (λ part. PartStands chain piece.leg piece.from piece.to part) }
-    ensures kind { in_order ≡ true → IfOk result (λ part. may_search part ≡ false) }
+    ensures kind { IfNone stop.entry (IfOk result (λ part. may_search part ≡ false)) }
 {
     let leg = plan.leg(piece.leg);
     let source = walked.source.of_leg(leg);
     let env = walked.env;
     let walked = Walked { source, env };
-    if in_order || leg.streams() {
+    let Some(stop) = stop else {
+        return streamed(alloc, leg, walked, registers);
+    };
+    if leg.streams() {
         return streamed(alloc, leg, walked, registers);
     }
     let window = Window {

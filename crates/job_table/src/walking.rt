@@ -18,29 +18,28 @@ use lambda_values::Env;
 use std::alloc::Global;
 
 impl<'a, 'c, P: PlanBrand> PlanJobs<'a, 'c, P> {
-    /// The part of a piece. With `in_order` the piece is all of its leg, and is walked in one go from its first item
-    /// on, so that `job_answer` gives an answer.
+    /// The part of a piece. Without `stop` the piece is all of its leg, and is walked in one go from its first item on,
+    /// so that `job_answer` gives an answer.
     pub(crate) fn part<E: EarlierAnswers<Answer>, W: Stop>(
         &self,
         alloc: Global,
         piece: Piece,
-        in_order: bool,
         input: LegInput<'_, '_, Given<'a, 'c>, Env<'c>, E>,
         registers: &mut Registers,
-        stop: &mut W,
+        stop: Option<&mut W>,
     ) -> Result<Part<'a>, NoMemory>
-        requires stop { (c : ℕ) → W.decides stop.old c
-            → DecidesIn (run_of (plans_in P.jobs)) piece.job piece.leg c }
+        requires stop { IfSome stop (λ known. (c : ℕ) → W.decides known.now c
+            → DecidesIn (run_of (plans_in P.jobs)) piece.job piece.leg c) }
         requires piece { IsPieceOf (run_of (plans_in P.jobs)) piece }
-        requires all { in_order ≡ true → (piece.from ≡ 0)
-            × (piece.to ≡ size_at (chain_at (plans_in P.jobs) piece.job) piece.leg) }
+        requires all { IfNone stop ((piece.from ≡ 0)
+            × (piece.to ≡ size_at (chain_at (plans_in P.jobs) piece.job) piece.leg)) }
         requires first { IfNone input.source (piece.leg ≡ 0) }
         requires source { IfSome input.source (λ walk. walk.now
             ≡ given_at (chain_at (plans_in P.jobs) piece.job) piece.leg) }
         requires given { IsTaken (plans_in P.jobs) piece.job input.given.now }
         requires earlier { (j : ℕ) (a : answers) → E.is_answer j a → a ≡ answer_of (plans_in P.jobs) j }
         ensures stands { IfOk result (λ part. Stands (run_of (plans_in P.jobs)) piece part) }
-        ensures kind { in_order ≡ true → IfOk result (λ part. may_search part ≡ false) }
+        ensures kind { IfNone stop.entry (IfOk result (λ part. may_search part ≡ false)) }
     {
         let plan = self.job(piece.job);
         let env = input.given;
@@ -48,19 +47,19 @@ impl<'a, 'c, P: PlanBrand> PlanJobs<'a, 'c, P> {
             Some(walk) => {
                 let source = Source::of_given(walk);
                 let walked = Walked { source, env };
-                walked_piece(alloc, plan, piece, in_order, walked, registers, stop)
+                walked_piece(alloc, plan, piece, walked, registers, stop)
             }
             None if plan.takes_arrays() => {
                 let own = self.own(piece.job);
                 let sources = self.put_sources(alloc, piece.job, own, input.earlier)?;
                 let source = Source::of_put(&sources);
                 let walked = Walked { source, env };
-                walked_piece(alloc, plan, piece, in_order, walked, registers, stop)
+                walked_piece(alloc, plan, piece, walked, registers, stop)
             }
             None => {
                 let source = Source::of_sources(&plan.sources);
                 let walked = Walked { source, env };
-                walked_piece(alloc, plan, piece, in_order, walked, registers, stop)
+                walked_piece(alloc, plan, piece, walked, registers, stop)
             }
         }
     }

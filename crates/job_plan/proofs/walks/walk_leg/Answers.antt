@@ -11,7 +11,7 @@ pub returns-in-Some : goal.returns-in-Some
 returns-in-Some c =
     let leg = c.args.leg.now in
     let s = segment_in leg.last in
-    let env = c.args.env.now in
+    let env = c.args.walked.env.now in
     let source = walk_in c.of_leg-source.result in
     (rw c.in-Some.is at c.in_ok-outcome.ensures.some) s (piece_of 0 None source) c.in_ok-part.ensures
     ∙ ap (outcome_of s env) (whole_piece source
@@ -22,7 +22,7 @@ returns-in-Some c =
 pub returns : goal.returns
 returns c =
     let leg = c.args.leg.now in
-    let env = c.args.env.now in
+    let env = c.args.walked.env.now in
     (rw c.in-Some-2.is at c.in_ok-outcome-2.ensures.some) (segment_in leg.last)
     (linked (leg_in leg).links env (walk_in c.of_leg-source.result)) c.in_ok-part-2.ensures.stands
     ∙ ap (λ (t : Trace). outcome_of (segment_in leg.last) env (linked (leg_in leg).links env t)) c.of_leg-source.ensures

@@ -1,11 +1,11 @@
-use Rattle.std.proofs.Common.{◌∙◌, ◌≡◌, ◌+◌, Option, Some, None, is_some, ap, sym, subst, suc, arith}
+use Rattle.std.proofs.Common.{◌∙◌, ◌≡◌, ◌+◌, Some, None, is_some, ap, sym, subst, suc, arith}
 use Rattle.trace.specs.Trace.{Trace}
 use Rattle.lambda_values.specs.Earlier.{Numbers}
 use Rattle.job_plan.specs.Parts.{StandsFor}
 use Rattle.job_language.specs.Jobs.{sources_of}
 use Rattle.job_meaning.specs.Walks.{source_walk}
 use Rattle.job_routes.specs.Legs.{AbstractSegment, left_after, leg_at, leg_in, outcome_of}
-use Rattle.job_table.specs.PlanLegs.{AbstractChain, given_at, search_at}
+use Rattle.job_table.specs.PlanLegs.{given_at, search_at}
 use Rattle.job_table.proofs.PlanParts.{goes_nowhere, goes_over, goes_over_left, search_given}
 use Rattle.job_table.proofs.plan_parts.next_walk.Goals as goal
 

@@ -5,8 +5,8 @@ use Rattle.job_plan.proofs.nest.InnerNest.feed.Given as goal
 
 abbrev pub ghosts-feed_link : goal.ghosts-feed_link
 ghosts-feed_link g a = record {
-  rest = slice_of a.link.now.slice;
-  stage = number_after a.link.now.stages;
-  next = line_in a.next;
-  env = a.next.env.now;
+  rest = slice_of a.last.link.now.slice;
+  stage = number_after a.last.link.now.stages;
+  next = line_in a.last.next;
+  env = a.last.next.env.now;
 }

@@ -1,5 +1,6 @@
 use Rattle.std.proofs.Common.{◌≡◌, sym, ap, subst, ◌∙◌}
 use Rattle.batch_eval.specs.Pipelines.{piped}
+use Rattle.batch_eval.specs.declared.pipeline.Pipeline.{Pipeline}
 use Rattle.lambda_values.specs.Earlier.{Numbers}
 use Rattle.slice_ops.specs.Slices.{slice_of, sliced}
 use Rattle.trace.specs.Trace.{Trace}
@@ -13,12 +14,14 @@ returns-in-Some g c =
     let chain = c.args.chain in
     let env = chain.line.env.now in
     let t = walk_in c.args.source.now in
-    let link = c.in-Some.link.now in
-    let before = c.in-Some.before in
-    let through : Numbers → Trace = λ e. sliced (slice_of link.slice) (number_after link.stages) env
-    (piped before.line (linked (links_in before.links.now) e t)) in
-    let whole : linked (links_in chain.links.now) env t ≡ through before.line.env.now =
-    c.in-Some.ensures.walk t ∙ ap through (sym c.in-Some.ensures.env) in
-    if_ok_map _ _ c.feed_link.result
-    (λ made stands. subst (λ (u : Trace). g.S.Closing.stands made (piped chain.line u)) (sym whole) stands)
+    let last = c.in-Some.last in
+    let link = last.link.now in
+    let before = last.before in
+    let through : Pipeline → Numbers → Trace = λ line e. piped line (sliced (slice_of link.slice)
+    (number_after link.stages) line.env.now (piped before.line (linked (links_in before.links.now) e t))) in
+    let next : chain.line ≡ last.next = sym c.in-Some.ensures.next in
+    let whole : piped chain.line (linked (links_in chain.links.now) env t) ≡ through last.next before.line.env.now =
+    ap (piped chain.line) (c.in-Some.ensures.walk t) ∙ (λ i. through (next i) (sym c.in-Some.ensures.env i)) in
+    if_ok_map _ _ c.feed_link.result (λ made stands. subst (λ (u : Trace). g.S.Closing.stands made u) (sym whole)
+    stands)
     c.feed_link.ensures

@@ -1,6 +1,5 @@
-use Rattle.std.proofs.Common.{◌≡◌, ◌∙◌, ◌+◌, true, is_some, ap, refl, sym}
+use Rattle.std.proofs.Common.{◌≡◌, ◌∙◌, ◌+◌, ap, refl, sym}
 use Rattle.job_language.specs.Jobs.{sources_of}
-use Rattle.job_meaning.specs.Walks.{source_walk}
 use Rattle.job_routes.specs.Legs.{leg_in, leg_at}
 use Rattle.job_plan.specs.Plans.{plan_in, plans_in}
 use Rattle.job_plan.specs.Parts.{walk_in}

@@ -4,7 +4,7 @@ use Rattle.slice_ops.specs.Slices.{slice_of, sliced}
 use Rattle.job_routes.specs.declared.leg.Link.{Link}
 use Rattle.job_routes.specs.Legs.{links_in, number_after, linked}
 use Rattle.job_routes.proofs.LinkLemmas.{last_linked}
-use Rattle.job_plan.proofs.nest.Chain.before.Goals as goal
+use Rattle.job_plan.proofs.nest.Chain.split_last.Goals as goal
 
 pub returns-in-Some-clause-walk : goal.returns-in-Some-clause-walk
 returns-in-Some-clause-walk c = λ t.

@@ -12,9 +12,9 @@ use Rattle.prefix_walks.specs.Pieces.{elements, piece_of}
 use Rattle.job_plan.proofs.PartLemmas.{none_stands}
 use Rattle.job_plan.proofs.WalkLemmas.{after_enough, after_fault, after_more, enough_is_settled, same_ending}
 use Rattle.job_plan.proofs.WalkLemmas.{settled_first, taken_none, unpinned}
-use Rattle.job_plan.proofs.EnoughLemmas.{whole_enough, none_enough}
-use Rattle.job_plan.proofs.leaves.leaf_until_as.Goals.{in-More, in-Fault, in-Enough}
-use Rattle.job_plan.proofs.leaves.leaf_until_as.Goals as goal
+use Rattle.job_plan.proofs.EnoughLemmas.{whole_enough}
+use Rattle.job_plan.proofs.leaves.part_until.Goals.{in-More, in-Fault, in-Enough}
+use Rattle.job_plan.proofs.leaves.part_until.Goals as goal
 
 pub returns-then-is_settled-clause-stands : goal.returns-then-is_settled-clause-stands
 returns-then-is_settled-clause-stands g c =
@@ -91,19 +91,14 @@ returns-clause-stands g c =
           (after_enough s env part nothing t from to given.0 (enough_is_settled (is_settled part) flow) x)
     ])
 
-pub returns-in_default-clause-stands : goal.returns-in_default-clause-stands
-returns-in_default-clause-stands g c =
-    let s = segment_in c.args.segment.now in
+pub returns-in_default-clause-left : goal.returns-in_default-clause-left
+returns-in_default-clause-left g c =
     let f = end_in g.K.EndBrand.last in
     let n = g.K.EndBrand.stage in
-    let env = c.args.walked.env.now in
     let begun = g.K.EndBrand.begun in
     let no_items : List Item = [] in
     let first : HasTaken f n g.K.EndBrand.env begun c.args.part no_items =
     subst (λ (b : Part). HasTaken f n g.K.EndBrand.env b c.args.part no_items) c.requires.begun
     (taken_none f n g.K.EndBrand.env c.args.part) in
-    let known = (rw c.in_default.is at c.in_ok-ended.ensures.left) no_items
-    (c.requires.last, c.next.ensures ∙ c.requires.stage, c.requires.env, first) in
-    none_enough s env c.none.result (g.W.Stop.decides c.args.stop.now) c.args.window.from
-    (piece_of c.args.window.from c.args.window.to (walk_in c.args.walked.source)) known
-    (none_stands s env c.none.result c.none.ensures.stands)
+    (rw c.in_default.is at c.in_ok-ended.ensures.left) no_items
+    (c.requires.last, c.next.ensures ∙ c.requires.stage, c.requires.env, first)
