@@ -38,6 +38,12 @@ module _ (p : ℤ → Bool) (start : Option ℕ) (origins : List ℕ) (values fl
   pub front_unset : (n : ℕ) → p (at flags n) ≡ false → front (n + 1) ≡ front n
   front_unset n unset = rw (add-one, unset) (append-nil (front n))
 
+  -- lanes of which none is set
+  pub front_none : (n : ℕ) → ((k : ℕ) → k < n → p (at flags k) ≡ false) → front n ≡ []
+  front_none zero none = refl
+  front_none (suc n) none =
+      rw (none n (omega arith)) (append-nil (front n)) ∙ front_none n (λ k below. none k (omega arith))
+
   -- all items are those before a lane that is set, its own, and those after it
   around : (n : ℕ) → n < length flags → p (at flags n) ≡ true
       → (rest : List Item) × (flagged_items p start origins values flags

@@ -31,12 +31,14 @@ pub(crate) fn all_flags(flags: &[i64], kind: bool, live: usize) -> bool
     lanes_pass(Register(flags), NumberTest::is_set(), kind, live)
 }
 
-/// Whether no flag is set. Mostly one of the first flags is: only if none of them is, it looks at the others.
-pub(crate) fn none_set(flags: &[i64], live: usize) -> bool
+/// Whether no flag is set, as this test says. Mostly one of the first flags is: only if none of them is, it looks at
+/// the others.
+pub(crate) fn none_set(flags: &[i64], set: NumberTest, live: usize) -> bool
     requires { live ≤ length flags.now }
-    ensures { IsTrue result → (k : ℕ) → k < live → is_set_flag (at flags.now k) ≡ false }
+    ensures { IsTrue result → (k : ℕ) → k < live → holds set (at flags.now k) ≡ false }
 {
-    all_flags(flags, false, live.min(SAMPLE)) && all_flags(flags, false, live)
+    let lanes = Register(flags);
+    lanes_pass(lanes, set, false, live.min(SAMPLE)) && lanes_pass(lanes, set, false, live)
 }
 
 /// The numbers of the lanes whose flag is as it is wanted, one after the other, and how many they are.

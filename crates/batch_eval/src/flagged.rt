@@ -20,6 +20,7 @@ ghost use Rattle.trace.specs.declared.item.End.TheVariants as end;
 ghost use Rattle.lambda_values.specs.declared.item.Item.{Item};
 
 use crate::batch::{Batch, origin_of, stopped};
+use crate::choose::none_set;
 use crate::lane_items::LaneItems;
 use crate::number_test::NumberTest;
 use crate::pipeline::Pipeline;
@@ -59,7 +60,8 @@ impl FlaggedLanes<'_> {
     }
 }
 
-/// Gives a sink the items of lanes whose flag is set one after the other, until it has enough.
+/// Gives a sink the items of lanes whose flag is set one after the other, until it has enough. The loop takes a step
+/// for each lane, so it isn't entered where no flag is set.
 pub fn accept_each_flagged<S: LongSink>(
     lanes: FlaggedLanes<'_>,
     sink: &mut S,
@@ -71,6 +73,9 @@ pub fn accept_each_flagged<S: LongSink>(
     ensures flow { S.flow sink.new ≡ flow_after result }
     ensures refused { OnErr result S.takes_memory }
 {
+    if none_set(lanes.flags, lanes.set, lanes.flags.len()) {
+        return Ok(Fed::More);
+    }
     for lane in 0..lanes.flags.len() {
         if lanes.set.holds(lanes.flags[lane]) {
             match sink.accept(lanes.item(lane))? {

@@ -7,6 +7,7 @@ ghost use Rattle.std.specs.Prelude.{◌≡◌, ℕ, ◌<◌, ◌≤◌, length, 
 use crate::batch::origin_of;
 use crate::choose::none_set;
 use crate::flag::is_set;
+use crate::number_test::NumberTest;
 
 /// Moves the items of the lanes whose flag is set to the front, and answers how many they are. Their places are listed.
 /// The loop takes a step for each lane, so it isn't entered where no flag is set.
@@ -27,7 +28,8 @@ pub(crate) fn keep_lanes(
     ensures origins { (j : ℕ) → j < result → slice_index origins.new j
         ≡ origin_at start origins.old (slice_index (passing flags.now live) j) }
 {
-    if none_set(flags, live) {
+    let set = NumberTest::is_set();
+    if none_set(flags, set, live) {
         return 0;
     }
     let mut kept = 0;

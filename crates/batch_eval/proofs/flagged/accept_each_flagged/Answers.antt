@@ -1,11 +1,21 @@
-use Rattle.std.proofs.Common.{◌≡◌, ◌<◌, List, ◌++◌, [], ◌∷◌, length, true, sym, ap, subst, ◌∙◌, append_assoc, rules}
+use Rattle.std.proofs.Common.{◌≡◌, ◌<◌, List, ◌++◌, [], ◌∷◌, length, true, refl, sym, ap, subst, ◌∙◌, append_assoc}
+use Rattle.std.proofs.Common.{rules}
 use Rattle.std.proofs.lemmas.Result.{err_from_is_err_and}
 use Rattle.lambda_values.specs.declared.item.Item.{Item}
 use Rattle.batch_eval.specs.Batches.{holds, item_at}
 use Rattle.batch_eval.specs.Lanes.{at}
-use Rattle.batch_eval.proofs.FlaggedLemmas.{flagged_enough, flagged_refused, front, front_set, front_unset}
+use Rattle.std.proofs.lemmas.List.{append-nil}
+use Rattle.batch_eval.proofs.FlaggedLemmas.{flagged_enough, flagged_refused, front, front_none, front_set, front_unset}
 use Rattle.batch_eval.proofs.flagged.accept_each_flagged.Goals.{then-holds+in_ok-accept+in-More, else-holds}
 use Rattle.batch_eval.proofs.flagged.accept_each_flagged.Goals as goal
+
+pub returns-then-none_set-clause-fed : goal.returns-then-none_set-clause-fed
+returns-then-none_set-clause-fed g c = λ xs took.
+    let l = c.args.lanes in
+    let h = g.S.LongSink.has_taken c.args.sink.now in
+    let none = front_none (holds l.set) l.start l.origins.now l.values.now l.flags.now (length l.flags.now)
+    (c.none_set.ensures c.if-none_set.true) in
+    (subst h (sym (append-nil xs) ∙ ap (λ (ys : List Item). xs ++ ys) (sym none)) took, refl)
 
 pub loop-lane-preserved : goal.loop-lane-preserved
 loop-lane-preserved g c = record {

@@ -10,7 +10,8 @@ use Rattle.batch_eval.proofs.keep.keep_lanes.Goals as goal
 pub returns-then-none_set-clause-count : goal.returns-then-none_set-clause-count
 returns-then-none_set-clause-count c =
     let flags = c.args.flags.now in
-    sym (none_picked (λ k. is_set (at flags k)) c.args.live (c.none_set.ensures c.if-none_set.true))
+    sym (none_picked (λ k. is_set (at flags k)) c.args.live
+    (λ k below. sym (c.is_set-set.ensures (at flags k)) ∙ c.none_set.ensures c.if-none_set.true k below))
 
 pub loop-i-preserved : goal.loop-i-preserved
 loop-i-preserved c =
