@@ -88,13 +88,14 @@ module _ (live : ℕ) (start : Option ℕ) (origins : List ℕ) (values flags : 
 
   -- given to a sink
   pub set_cut : (p : ℤ → Bool) → ((z : ℤ) → p z ≡ is_set z) → live ≤ length flags → trace (lanes live lane) e ≡ t
-      → trace (flagged_items p start origins values (take live flags)) e ≡ flagged_walk flags t
+      → trace (flagged_items p start origins (at values) (take live flags)) e ≡ flagged_walk flags t
   set_cut p is within seen =
       let same = gathered_same live (λ k. kept_if (is_set (flag_of (p (at flags k)))) (lane k))
       (λ k. kept_if (is_set (at flags k)) (lane k))
       (λ k below. ap (λ (b : Bool). kept_if b (lane k)) (set_flag (p (at flags k)) ∙ is (at flags k))) in
-      let cut = flags_cut p start origins values flags live within ∙ same ∙ sym (set_lanes flags live lane) in
-      subst (λ (u : Trace). trace (flagged_items p start origins values (take live flags)) e ≡ flagged_walk flags u)
+      let cut = flags_cut p start origins (at values) flags live within ∙ same ∙ sym (set_lanes flags live lane) in
+      subst (λ (u : Trace). trace (flagged_items p start origins (at values) (take live flags)) e
+      ≡ flagged_walk flags u)
       seen (ap (λ (ys : List Item). trace ys e) cut)
 
   module _ (env : Numbers) (stage : ℕ) (r : Reached) where

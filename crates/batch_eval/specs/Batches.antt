@@ -74,9 +74,9 @@ abbrev pub holds : NumberTest → ℤ → Bool
 holds t z = comparison_value t.comparison (seen_of t.seen z) t.number
 
 -- the items of lanes whose flag is set, one after the other
-abbrev pub flagged_items : (ℤ → Bool) → Option ℕ → List ℕ → List ℤ → List ℤ → List Item
-flagged_items set start origins values flags =
-    gathered (length flags) (λ k. if set (at flags k) then item_at start origins values k ∷ [] else [])
+abbrev pub flagged_items : (ℤ → Bool) → Option ℕ → List ℕ → (ℕ → ℤ) → List ℤ → List Item
+flagged_items set start origins value flags = gathered (length flags)
+    (λ k. if set (at flags k) then record { origin = origin_at start origins k; value = value k } ∷ [] else [])
 
 -- the items whose flag is set, one after the other
 abbrev pub set_items : List ℤ → List Item → List Item
@@ -89,10 +89,10 @@ abbrev pub flagged_walk : List ℤ → Trace → Trace
 flagged_walk flags t = trace (set_items flags t.items) t.ending
 
 -- the values of the first n lanes whose flag is set, one after the other
-abbrev pub flagged_values : (ℤ → Bool) → List ℤ → List ℤ → ℕ → List ℤ
-flagged_values set values flags zero = []
-flagged_values set values flags (suc n) =
-    flagged_values set values flags n ++ (if set (at flags n) then at values n ∷ [] else [])
+abbrev pub flagged_values : (ℤ → Bool) → (ℕ → ℤ) → List ℤ → ℕ → List ℤ
+flagged_values set value flags zero = []
+flagged_values set value flags (suc n) =
+    flagged_values set value flags n ++ (if set (at flags n) then value n ∷ [] else [])
 
 -- whether a flag is as it is wanted
 abbrev pub wants : Bool → ℤ → Bool

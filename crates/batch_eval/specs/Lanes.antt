@@ -1,6 +1,7 @@
 -- Condition: what registers hold, lane by lane, and how far a step over lanes came.
 use Rattle.std.specs.Int.{w64, cast_unsigned}
-use Rattle.std.specs.Prelude.{◌≡◌, ℕ, ◌<◌, ◌≤◌, ◌^◌, ◌%◌, ℤ, pos, negsuc, Bool, true, false, not, List, length}
+use Rattle.std.specs.Prelude.{◌≡◌, ℕ, ◌+◌, ◌-◌, ◌<◌, ◌≤◌, ◌^◌, ◌%◌, ℤ, pos, negsuc, Bool, true, false, not, List}
+use Rattle.std.specs.Prelude.{length}
 use Rattle.std.specs.Prelude.{slice_index_or, Option, Some, None, Result, Ok, Err}
 use Rattle.std.specs.Ordering.{int_eq}
 use Rattle.lambda_values.specs.declared.fault.FaultKind.{FaultKind}
@@ -58,6 +59,10 @@ or_zero (Err e) = pos 0
 -- the lower 32 bits of a number
 abbrev pub lower_half : ℤ → ℤ
 lower_half y = pos (cast_unsigned w64 y % 2 ^ 32)
+
+-- how far a number is from the least one, modulo 2^64
+abbrev pub gap : ℤ → ℤ → ℕ
+gap least x = (cast_unsigned w64 x + (2 ^ 64 - cast_unsigned w64 least)) % 2 ^ 64
 
 -- what a step makes of a number
 abbrev pub step_value : Step → ℤ → ℤ

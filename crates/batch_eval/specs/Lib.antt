@@ -4,6 +4,7 @@ pub mod Batches
 pub mod Choices
 pub mod Faultless
 pub mod InnerColumns
+pub mod LaneValues
 pub mod Lanes
 pub mod NumberTests
 pub mod Pipelines

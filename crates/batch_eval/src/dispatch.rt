@@ -11,9 +11,7 @@ use crate::division::{
     DivideByReciprocal, Division, FloorDivideByReciprocal, FloorRemainderByReciprocal, Natural,
     RemainderByReciprocal,
 };
-use crate::exact::{
-    NATURAL, SHORT, differences_within, lanes_within, of_factors, of_terms, sums_within,
-};
+use crate::exact::{NATURAL, SHORT, is_within, lanes_within, of_factors, of_terms};
 use crate::kernel::{
     Absolute, Add, AddExact, And, Complement, Divide, Equal, FloorDivide, FloorRemainder, Greater,
     GreaterOrEqual, Infix, Kernel, Less, LessOrEqual, Max, Min, Multiply, MultiplyExact, Negate,
@@ -119,13 +117,13 @@ fn by_number<A: Lanes>(op: Infix, a: A, step: Step, y: i64, live: usize, out: &m
             )
         }
         (Infix::Compute(BinaryOperator::AddExact), Step::Stay) => {
-            by_exact_number::<AddExact, Add, A>(sums_within(y), a, y, live, out)
+            by_exact_number::<AddExact, Add, A>(of_terms(), a, y, live, out)
         }
         (Infix::Compute(BinaryOperator::SubtractExact), Step::Stay) => {
-            by_exact_number::<SubtractExact, Subtract, A>(differences_within(y), a, y, live, out)
+            by_exact_number::<SubtractExact, Subtract, A>(of_terms(), a, y, live, out)
         }
         (Infix::Alone(UnaryOperator::NegateExact), Step::Stay) => {
-            by_exact_number::<NegateExact, Negate, A>((-i64::MAX, i64::MAX), a, y, live, out)
+            by_exact_number::<NegateExact, Negate, A>(of_terms(), a, y, live, out)
         }
         _ => by_operator(op, a, beside, live, out),
     }
@@ -182,9 +180,7 @@ fn by_binary<A: Lanes>(
         FloorDivide FloorRemainder AddExact SubtractExact MultiplyExact)
 }
 
-/// An exact operator and a number: the wrapping operator, where no operand is out of these bounds. Where it is called a
-/// compiler sees which of the bounds need no look.
-#[inline(always)]
+/// An exact operator and a number: the wrapping operator, where no operand is out of these bounds.
 fn by_exact_number<K: Kernel, W: Kernel, A: Lanes>(
     bounds: (i64, i64),
     a: A,
@@ -192,12 +188,14 @@ fn by_exact_number<K: Kernel, W: Kernel, A: Lanes>(
     live: usize,
     out: &mut [i64],
 ) -> Reached
-    requires wraps { (x : ℤ) → bounds.0 ≤ℤ x → x ≤ℤ bounds.1 → W.value x y ≡ K.value x y }
+    requires bounds { bounds.0 ≤ℤ bounds.1 }
+    requires wraps { (x : ℤ) → bounds.0 ≤ℤ x → x ≤ℤ bounds.1 → bounds.0 ≤ℤ y → y ≤ℤ bounds.1
+        → W.value x y ≡ K.value x y }
     requires a { live ≤ A.count a }
     requires out { live ≤ length out.old }
     ensures { Reaches (λ k. K.value (A.number a (at out.old k) k) y) (at out.new) live result }
 {
-    if lanes_within(a, bounds, live, out) {
+    if is_within(bounds, y) && lanes_within(a, bounds, live, out) {
         run::<W, A, Number>(a, Number(y), live, out)
     } else {
         run::<K, A, Number>(a, Number(y), live, out)
@@ -214,6 +212,7 @@ fn by_exact_lanes<K: Kernel, W: Kernel, A: Lanes>(
     live: usize,
     out: &mut [i64],
 ) -> Reached
+    requires bounds { bounds.0 ≤ℤ bounds.1 }
     requires wraps { (x y : ℤ) → bounds.0 ≤ℤ x → x ≤ℤ bounds.1 → bounds.0 ≤ℤ y → y ≤ℤ bounds.1
         → W.value x y ≡ K.value x y }
     requires a { live ≤ A.count a }

@@ -14,7 +14,7 @@ ghost use Rattle.lambda_values.specs.declared.item.Item.{Item};
 
 use crate::batch_items::BatchItems;
 use crate::cheap::stay_in_lanes;
-use crate::flagged::{Tested, give_passing};
+use crate::flagged::{Tested, flag_counted, give_counted, give_passing};
 use crate::lane_items::LaneItems;
 use crate::pipeline::Pipeline;
 use crate::register::LANES;
@@ -231,7 +231,8 @@ fn feed_in_place<S: BatchSink>(
     feed_space(later, space, sink)
 }
 
-/// Takes the items of a range of up to 1,024 integers. A `map` that comes first reads none of them.
+/// Takes the items of a range of up to 1,024 integers. A `map` that comes first reads none of them. Nor does a `filter`
+/// that is all, if the sink takes flags.
 fn feed_range<S: BatchSink>(
     line: Pipeline<'_>,
     range: &RangeItems,
@@ -248,10 +249,19 @@ fn feed_range<S: BatchSink>(
     ensures refused { OnErr result S.takes_memory }
     ensures room { length space.new.room.items ≡ length space.old.room.items }
 {
-    if let Some((Stage::Map(image), later)) = line.split_first() {
-        if space.batch.map_counted(range, image, line) {
-            return feed_space(later, space, sink);
+    match line.split_first() {
+        Some((Stage::Map(image), later)) => {
+            if space.batch.map_counted(range, image, line) {
+                return feed_space(later, space, sink);
+            }
         }
+        Some((Stage::Filter(test), later)) if later.stages.is_empty() && sink.takes_flags() => {
+            let room: &mut [i64] = &mut space.room;
+            if let Some(found) = flag_counted(test, line.env, range, room) {
+                return give_counted(line, range, found, room, sink);
+            }
+        }
+        _ => {}
     }
     space.batch.count_up(range);
     feed_space(line, space, sink)

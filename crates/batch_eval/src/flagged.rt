@@ -1,26 +1,28 @@
 //! Lanes with a flag each, as filters give them to a sink: nothing is moved. A flag is what the test of the one filter
 //! compares with a number, if it is such a comparison; else it is a boolean.
 
-ghost use Rattle.batch_eval.specs.Batches.{CountsUp, StopsInside, flagged_items, flagged_walk, holds};
-ghost use Rattle.batch_eval.specs.Batches.{item_at};
-ghost use Rattle.batch_eval.specs.BatchItems.{laid};
+ghost use Rattle.batch_eval.specs.Batches.{StopsInside, counted_item, flagged_walk, holds};
+ghost use Rattle.batch_eval.specs.BatchItems.{laid, set_in};
 ghost use Rattle.batch_eval.specs.Choices.{at_each};
 ghost use Rattle.batch_eval.specs.Lanes.{Reaches, at, flag_of, flagged};
 ghost use Rattle.batch_eval.specs.Pipelines.{AreImages, piped};
 ghost use Rattle.batch_eval.specs.Rooms.{FitsTest};
 ghost use Rattle.batch_eval.specs.Rows.{HasRows};
 ghost use Rattle.batch_eval.specs.declared.pipeline.Pipeline.{Pipeline as AbstractPipeline};
-ghost use Rattle.lambda_values.specs.Term.{truth_of};
+ghost use Rattle.lambda_values.specs.Term.{Truth, truth_of};
 ghost use Rattle.lambda_values.specs.Value.{truth_value};
-ghost use Rattle.std.specs.Prelude.{◌≡◌, ℕ, ◌+◌, ◌-◌, ◌<◌, ◌≤◌, ◌^◌, List, None, OnErr, Some, length, take};
+ghost use Rattle.std.specs.Prelude.{◌≡◌, ℕ, ◌+◌, ◌-◌, ◌<◌, ◌≤◌, ◌^◌, IfSome, List, None, OnErr, Some, length, take};
+ghost use Rattle.trace.specs.Cover.{counted, placed};
 ghost use Rattle.trace.specs.Sinks.{IsFed, flow_after};
 ghost use Rattle.trace.specs.Stages.{filter, of_item};
 ghost use Rattle.trace.specs.Trace.{each, trace};
 ghost use Rattle.trace.specs.declared.item.End.TheVariants as end;
 ghost use Rattle.lambda_values.specs.declared.item.Item.{Item};
 
-use crate::batch::{Batch, origin_of, stopped};
+use crate::batch::{Batch, stopped};
 use crate::choose::none_set;
+use crate::counted::eval_counted;
+use crate::flagged_lanes::{FlaggedLanes, LaneValues};
 use crate::lane_items::LaneItems;
 use crate::number_test::NumberTest;
 use crate::pipeline::Pipeline;
@@ -30,35 +32,8 @@ use crate::rows::Rows;
 use crate::sink::BatchSink;
 use crate::staging::fed_by;
 use crate::step::compared_with;
-use lambda_values::BoolExpr;
-use trace::{End, Fed, Flow, Item, LongSink, NoMemory};
-
-/// Values in lanes, a flag for each of the first lanes, and the test that says which flags are set. The items are the
-/// values of the lanes whose flag is set.
-#[derive(Clone, Copy)]
-pub struct FlaggedLanes<'a> {
-    start: Option<u64>,
-    origins: &'a [u64],
-    pub values: &'a [i64],
-    pub flags: &'a [i64],
-    pub set: NumberTest,
-    ghost counts: { (first : ℕ) → start ≡ Some first → first + length flags.now < 2 ^ 64 },
-    ghost listed: { start ≡ None → length flags.now ≤ length origins.now },
-    ghost flagged: { length flags.now ≤ length values.now },
-}
-
-impl FlaggedLanes<'_> {
-    /// The item of a lane, whatever its flag is.
-    fn item(self, lane: usize) -> Item
-        requires { lane < length self.flags.now }
-        ensures { result ≡ item_at self.entry.start self.entry.origins.now self.entry.values.now lane }
-    {
-        Item {
-            origin: origin_of(self.start, self.origins, lane),
-            value: self.values[lane],
-        }
-    }
-}
+use lambda_values::{BoolExpr, Env};
+use trace::{End, Fed, Flow, Item, LongSink, NoMemory, RangeItems};
 
 /// Gives a sink the items of lanes whose flag is set one after the other, until it has enough. The loop takes a step
 /// for each lane, so it isn't entered where no flag is set.
@@ -68,8 +43,7 @@ pub fn accept_each_flagged<S: LongSink>(
 ) -> Result<Fed, NoMemory>
     requires wants { S.flow sink.old ≡ Flow.More }
     ensures fed { (xs : List Item) → S.has_taken sink.old xs → IsFed S.has_taken xs
-        (trace (flagged_items (holds lanes.entry.set) lanes.entry.start lanes.entry.origins.now lanes.entry.values.now
-        lanes.entry.flags.now) end.Done) result sink.new }
+        (trace (set_in lanes.entry) end.Done) result sink.new }
     ensures flow { S.flow sink.new ≡ flow_after result }
     ensures refused { OnErr result S.takes_memory }
 {
@@ -136,7 +110,7 @@ pub(crate) fn give_passing<S: BatchSink>(
     let flagged = FlaggedLanes {
         start: images.start,
         origins: images.places,
-        values: images.values,
+        values: LaneValues::Listed(images.values),
         flags: &flags[..reached.live],
         set,
     };
@@ -168,6 +142,62 @@ fn flags_of<'a>(
     (register, NumberTest::is_set(), reached)
 }
 
+/// Puts into a register what a test compares at each integer of a range, if there are loops for it that read none of
+/// the integers. It answers which of these numbers pass, and how far the test of the integers came.
+pub(crate) fn flag_counted(
+    test: &BoolExpr,
+    env: &Env,
+    range: &RangeItems,
+    register: &mut [i64],
+) -> Option<(NumberTest, Reached)>
+    requires lanes { range.now.count ≤ 1024 }
+    requires register { range.now.count ≤ length register.old }
+    ensures { IfSome result (λ found. Reaches (λ k. flagged (truth_value (truth_of test.now)
+        (counted_item range.now.origin range.now.first k) env.now))
+        (λ k. flag_of (holds found.0 (at register.new k))) range.now.count found.1) }
+{
+    let (left, set) = compared_with(test, env)?;
+    let live = range.count as usize;
+    let reached = eval_counted(left, env, range.origin, range.first, live, register)?;
+    Some((set, reached))
+}
+
+/// Gives a sink the integers of a range that pass a test, by what `flag_counted` found for it.
+pub(crate) fn give_counted<S: BatchSink>(
+    line: Pipeline<'_>,
+    range: &RangeItems,
+    found: (NumberTest, Reached),
+    register: &[i64],
+    sink: &mut S,
+) -> Result<Fed, NoMemory>
+    requires lanes { range.now.count ≤ 1024 }
+    requires register { range.now.count ≤ length register.now }
+    requires inside { StopsInside found.1.fault found.1.live range.now.count }
+    requires within { found.1.live ≤ range.now.count }
+    requires wants { S.flow sink.old ≡ Flow.More }
+    ensures fed { (test : Truth) → Reaches (λ k. flagged (truth_value test
+        (counted_item range.now.origin range.now.first k) line.entry.env.now))
+        (λ k. flag_of (holds found.0 (at register.now k))) range.now.count found.1
+        → (xs : List Item) → S.has_taken sink.old xs → IsFed S.has_taken xs
+        (each (of_item line.entry.first (filter test) line.entry.env.now)
+        (placed range.now.origin (counted range.now.first range.now.count)) end.Done) result sink.new }
+    ensures flow { S.flow sink.new ≡ flow_after result }
+    ensures refused { OnErr result S.takes_memory }
+{
+    let (set, reached) = found;
+    let start = Some(range.origin);
+    let live = range.count as usize;
+    let lanes = FlaggedLanes {
+        start,
+        origins: &[],
+        values: LaneValues::CountUp(range.first),
+        flags: &register[..reached.live],
+        set,
+    };
+    let end = stopped(End::Done, line.first, live, start, &[], reached);
+    give_flagged(lanes, end, sink)
+}
+
 /// Gives a sink the items of the lanes of a batch whose flag is set. The flags are in the first register of the room.
 pub(crate) fn give_set<S: BatchSink>(
     batch: &Batch,
@@ -184,7 +214,7 @@ pub(crate) fn give_set<S: BatchSink>(
     let lanes = FlaggedLanes {
         start: batch.start,
         origins: &batch.origins,
-        values: &batch.values,
+        values: LaneValues::Listed(&batch.values),
         flags: &room[..batch.live],
         set: NumberTest::is_set(),
     };
@@ -199,8 +229,7 @@ fn give_flagged<S: BatchSink>(
 ) -> Result<Fed, NoMemory>
     requires wants { S.flow sink.old ≡ Flow.More }
     ensures fed { (xs : List Item) → S.has_taken sink.old xs → IsFed S.has_taken xs
-        (trace (flagged_items (holds lanes.entry.set) lanes.entry.start lanes.entry.origins.now lanes.entry.values.now
-        lanes.entry.flags.now) end) result sink.new }
+        (trace (set_in lanes.entry) end) result sink.new }
     ensures flow { S.flow sink.new ≡ flow_after result }
     ensures refused { OnErr result S.takes_memory }
 {

@@ -152,7 +152,8 @@ pub(crate) fn by_step<K: Kernel, A: Lanes, B: Lanes>(
 
 /// Whether each of these numbers after a step is within two bounds.
 pub(crate) fn steps_within(xs: &[i64], step: Step, bounds: (i64, i64), live: usize) -> bool
-    requires { live ≤ length xs.now }
+    requires bounds { bounds.0 ≤ℤ bounds.1 }
+    requires xs { live ≤ length xs.now }
     ensures { IsTrue result → (k : ℕ) → k < live
         → (bounds.0 ≤ℤ step_value step (at xs.now k)) × (step_value step (at xs.now k) ≤ℤ bounds.1) }
 {

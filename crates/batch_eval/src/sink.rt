@@ -1,7 +1,6 @@
 //! Sinks that take the items of a batch at once.
 
-ghost use Rattle.batch_eval.specs.BatchItems.{laid};
-ghost use Rattle.batch_eval.specs.Batches.{flagged_items, holds};
+ghost use Rattle.batch_eval.specs.BatchItems.{laid, set_in};
 ghost use Rattle.lambda_values.specs.Streams.{run_values};
 ghost use Rattle.std.specs.Prelude.{◌≡◌, List, ◌++◌, OnErr, false, map, true};
 ghost use Rattle.trace.specs.Sinks.{IsFed, flow_after};
@@ -9,7 +8,8 @@ ghost use Rattle.trace.specs.Trace.{trace};
 ghost use Rattle.trace.specs.declared.item.End.TheVariants as end;
 ghost use Rattle.lambda_values.specs.declared.item.Item.{Item};
 
-use crate::flagged::{FlaggedLanes, accept_each_flagged};
+use crate::flagged::accept_each_flagged;
+use crate::flagged_lanes::FlaggedLanes;
 use crate::lane_items::LaneItems;
 use lambda_values::{BoolExpr, Run};
 use trace::{Fed, Flow, LongSink, NoMemory, SourceItems};
@@ -40,8 +40,7 @@ pub trait BatchSink: LongSink {
     fn accept_flagged(&mut self, lanes: FlaggedLanes<'_>) -> Result<Fed, NoMemory>
         requires wants { Self.flow self.old ≡ Flow.More }
         ensures fed { (xs : List Item) → Self.has_taken self.old xs → IsFed Self.has_taken xs
-            (trace (flagged_items (holds lanes.entry.set) lanes.entry.start lanes.entry.origins.now
-            lanes.entry.values.now lanes.entry.flags.now) end.Done) result self.new }
+            (trace (set_in lanes.entry) end.Done) result self.new }
         ensures flow { Self.flow self.new ≡ flow_after result }
         ensures refused { OnErr result Self.takes_memory }
     {

@@ -1,6 +1,7 @@
 //! What is asked of the parts that pieces give to an end of a segment, whichever kind of end it is.
 
-ghost use Rattle.batch_eval.specs.Batches.{flagged_values, holds, laid_items};
+ghost use Rattle.batch_eval.specs.BatchItems.{values_in};
+ghost use Rattle.batch_eval.specs.Batches.{laid_items};
 ghost use Rattle.std.specs.Prelude.{◌≡◌, ◌<◌, ◌≤◌, ℕ, false, true, List, [], ◌∷◌, length, map, IfOk, IfErr, OnOk};
 ghost use Rattle.std.specs.Prelude.{OnErr};
 ghost use Rattle.lambda_values.specs.Earlier.{Numbers};
@@ -80,8 +81,7 @@ pub(crate) trait EndPart: Drop + Sized {
     fn push_flagged(&mut self, _lanes: FlaggedLanes<'_>) -> bool
         requires { is_settled (as_part self.old) ≡ false }
         ensures taken { result ≡ true → (e : AbstractEnd) (stage : ℕ) (env : Numbers) (t : Trace) (xs : List item)
-            → map (λ x. x.value) xs ≡ flagged_values (holds _lanes.entry.set) _lanes.entry.values.now
-            _lanes.entry.flags.now (length _lanes.entry.flags.now)
+            → map (λ x. x.value) xs ≡ values_in _lanes.entry
             → EndsFor e stage env (as_part self.old) t
             → EndsFor e stage env (as_part self.new) (append t (trace xs end.Done)) }
         ensures open { is_settled (as_part self.new) ≡ false }

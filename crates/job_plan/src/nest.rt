@@ -38,7 +38,7 @@ pub(crate) struct Chain<'p> {
     pub(crate) pass_all: &'p Link,
 }
 
-/// A link of a walk: what comes to it, and the stages after it.
+/// A link of a walk, or the one that lets all items pass: what comes to it, and the stages after it.
 #[derive(Clone, Copy)]
 struct LastLink<'p> {
     before: Chain<'p>,

@@ -1,6 +1,6 @@
 //! What a piece of a segment's source gives to the end of the segment.
 
-ghost use Rattle.batch_eval.specs.Batches.{flagged_values, holds};
+ghost use Rattle.batch_eval.specs.BatchItems.{values_in};
 ghost use Rattle.std.specs.Prelude.{◌≡◌, ◌<◌, ◌≤◌, ℕ, false, true, List, [], ◌∷◌, is_some, length, map, IfOk};
 ghost use Rattle.std.specs.Prelude.{IfErr, IfNone, IfSome, OnOk, OnErr, if◌then◌else◌};
 ghost use Rattle.lambda_values.specs.Earlier.{Numbers};

@@ -267,6 +267,13 @@ one_piece chain leg from to l got whole ordered within =
     (ap is_one_piece (sym got) ∙ whole) in
     (omega (arith, none, ordered, within), omega (arith, none, within))
 
+-- a leg and what it goes over, where they are found, are those of the chain
+pub leg_over : (chain : AbstractChain) (k : ℕ) {legs : AbstractLegs} {leg : AbstractLeg} {t w : Trace}
+    → chain.legs ≡ legs → leg ≡ leg_at k legs → t ≡ given_at chain k → w ≡ leg_walk leg t
+    → (leg ≡ leg_at k chain.legs) × (w ≡ source_at chain k)
+leg_over chain k is got walks over =
+    let same = got ∙ ap (leg_at k) (sym is) in (same, over ∙ (λ i. leg_walk (same i) (walks i)))
+
 -- the part of a piece that is all of a leg
 pub streamed_stands : {F : Type 0} (chain : AbstractChain) (leg from to : ℕ) (l : AbstractLeg) (r : Result Part F)
     (env : Numbers) (w : Trace) → l ≡ leg_at leg chain.legs → env ≡ chain.numbers

@@ -82,14 +82,14 @@ pub(crate) fn walked_piece<'a, W: Stop>(
     let Some(stop) = stop else {
         return streamed(alloc, leg, walked, registers);
     };
-    if leg.streams() {
-        return streamed(alloc, leg, walked, registers);
+    if !leg.streams() {
+        let window = Window {
+            from: piece.from,
+            to: end_of(piece, &walked.source),
+        };
+        return leaf_until(alloc, leg, walked, window, registers, stop);
     }
-    let window = Window {
-        from: piece.from,
-        to: end_of(piece, &walked.source),
-    };
-    leaf_until(alloc, leg, walked, window, registers, stop)
+    streamed(alloc, leg, walked, registers)
 }
 
 /// Which positions the next leg goes over, if this leg of a job is a search.

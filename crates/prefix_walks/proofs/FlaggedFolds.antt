@@ -24,37 +24,37 @@ fit_joined : (vs ws : List ℤ) → AllFit vs → AllFit ws → AllFit (vs ++ ws
 fit_joined [] ws a b = b
 fit_joined (v ∷ vs) ws a b = (a.0, fit_joined vs ws a.1 b)
 
-module _ (p : ℤ → Bool) (values flags : List ℤ) where
+module _ (p : ℤ → Bool) (value : ℕ → ℤ) (flags : List ℤ) where
   -- one value more, or none
   pub values_set : (n : ℕ) → p (at flags n) ≡ true
-      → flagged_values p values flags (n + 1) ≡ flagged_values p values flags n ++ at values n ∷ []
+      → flagged_values p value flags (n + 1) ≡ flagged_values p value flags n ++ value n ∷ []
   values_set n set = rw (add-one, set) refl
 
   pub values_unset : (n : ℕ) → p (at flags n) ≡ false
-      → flagged_values p values flags (n + 1) ≡ flagged_values p values flags n
-  values_unset n unset = rw (add-one, unset) (append-nil (flagged_values p values flags n))
+      → flagged_values p value flags (n + 1) ≡ flagged_values p value flags n
+  values_unset n unset = rw (add-one, unset) (append-nil (flagged_values p value flags n))
 
   pub passed_set : (n : ℕ) → p (at flags n) ≡ true
-      → length (flagged_values p values flags (n + 1)) ≡ length (flagged_values p values flags n) + 1
+      → length (flagged_values p value flags (n + 1)) ≡ length (flagged_values p value flags n) + 1
   passed_set n set = ap (λ (vs : List ℤ). length vs) (values_set n set)
-      ∙ length-append (flagged_values p values flags n) (at values n ∷ [])
+      ∙ length-append (flagged_values p value flags n) (value n ∷ [])
 
-  pub fit_set : (n : ℕ) → p (at flags n) ≡ true → FitsSigned w64 (at values n)
-      → AllFit (flagged_values p values flags n) → AllFit (flagged_values p values flags (n + 1))
+  pub fit_set : (n : ℕ) → p (at flags n) ≡ true → FitsSigned w64 (value n)
+      → AllFit (flagged_values p value flags n) → AllFit (flagged_values p value flags (n + 1))
   fit_set n set here before = subst AllFit (sym (values_set n set))
-      (fit_joined (flagged_values p values flags n) (at values n ∷ []) before (here, tt))
+      (fit_joined (flagged_values p value flags n) (value n ∷ []) before (here, tt))
 
   module _ (op : Op) (counts : Bool) (identity : ℤ) where
     -- the fold of the values of the first n lanes
     abbrev pub folded_from : ℕ → ℤ
-    folded_from n = fold (λ a v. value_of op a (each_one counts v)) identity (flagged_values p values flags n)
+    folded_from n = fold (λ a v. value_of op a (each_one counts v)) identity (flagged_values p value flags n)
 
     pub folded_set : (n : ℕ) → p (at flags n) ≡ true
-        → folded_from (n + 1) ≡ value_of op (folded_from n) (each_one counts (at values n))
+        → folded_from (n + 1) ≡ value_of op (folded_from n) (each_one counts (value n))
     folded_set n set =
         let f : ℤ → ℤ → ℤ = λ a v. value_of op a (each_one counts v) in
         ap (fold f identity) (values_set n set)
-        ∙ fold-append f identity (flagged_values p values flags n) (at values n ∷ [])
+        ∙ fold-append f identity (flagged_values p value flags n) (value n ∷ [])
 
     pub folded_unset : (n : ℕ) (a : ℤ) → identity_of op ≡ Some identity → FitsSigned w64 a → a ≡ folded_from n
         → p (at flags n) ≡ false → folded_from (n + 1) ≡ value_of op a identity
@@ -76,10 +76,10 @@ module _ (p : ℤ → Bool) (values flags : List ℤ) where
         (all_identities op identity is (each_one counts v) (one_fits v fits.0)).0
 
     -- a fold onto an identity is the fold, if there are values
-    pub flagged_folded : identity_of op ≡ Some identity → (n : ℕ) → AllFit (flagged_values p values flags n)
-        → 0 < length (flagged_values p values flags n)
-        → Some (folded_from n) ≡ folded_values (value_of op) counts (flagged_values p values flags n)
-    flagged_folded is n fits some = some_folded is (flagged_values p values flags n) fits some
+    pub flagged_folded : identity_of op ≡ Some identity → (n : ℕ) → AllFit (flagged_values p value flags n)
+        → 0 < length (flagged_values p value flags n)
+        → Some (folded_from n) ≡ folded_values (value_of op) counts (flagged_values p value flags n)
+    flagged_folded is n fits some = some_folded is (flagged_values p value flags n) fits some
 
     pub none_folded : (vs : List ℤ) → 0 ≡ length vs → None ≡ folded_values (value_of op) counts vs
     none_folded [] none_left = refl

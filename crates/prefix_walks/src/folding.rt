@@ -1,6 +1,6 @@
 //! Folds of the values of a batch, or of those whose flag is set: one loop, compiled for each operator.
 
-ghost use Rattle.batch_eval.specs.Batches.{flagged_values, holds};
+ghost use Rattle.batch_eval.specs.BatchItems.{values_in};
 ghost use Rattle.std.specs.Prelude.{◌≡◌, ◌<◌, ◌≤◌, ◌^◌, IfNone, IfSome, List, None, Some, false, fold, length};
 ghost use Rattle.std.specs.Prelude.{map, pos, true};
 ghost use Rattle.trace.specs.declared.item.End.TheVariants as end;
@@ -153,8 +153,7 @@ pub fn folded_flagged(op: Op, counts: bool, lanes: FlaggedLanes<'_>) -> Option<P
     ensures op { IfSome result (λ right. right.op ≡ op) }
     ensures ending { IfSome result (λ right. right.end ≡ end.Done) }
     ensures stands { IfSome result (λ right. (xs : List item)
-        → map (λ x. x.value) xs ≡ flagged_values (holds lanes.entry.set) lanes.entry.values.now lanes.entry.flags.now
-        (length lanes.entry.flags.now)
+        → map (λ x. x.value) xs ≡ values_in lanes.entry
         → StandsFor right (trace (counted_as counts xs) end.Done)) }
 {
     let identity = op.identity()?;
@@ -168,8 +167,7 @@ pub fn folded_flagged(op: Op, counts: bool, lanes: FlaggedLanes<'_>) -> Option<P
 /// knows its operator and whether it counts.
 fn fold_flagged(op: Op, counts: bool, identity: i64, lanes: FlaggedLanes<'_>) -> Option<i64>
     requires { identity_of op ≡ Some identity }
-    ensures { result ≡ folded_values (value_of op) counts (flagged_values (holds lanes.entry.set)
-        lanes.entry.values.now lanes.entry.flags.now (length lanes.entry.flags.now)) }
+    ensures { result ≡ folded_values (value_of op) counts (values_in lanes.entry) }
 {
     match op {
         Op::Sum if counts => count_flagged(lanes),
@@ -183,8 +181,7 @@ fn fold_flagged(op: Op, counts: bool, identity: i64, lanes: FlaggedLanes<'_>) ->
 /// How many values have their flag set, as the fold of a 1 for each of them; `None` if no flag is set. It reads no
 /// value.
 fn count_flagged(lanes: FlaggedLanes<'_>) -> Option<i64>
-    ensures { result ≡ folded_values (value_of Op.Sum) true (flagged_values (holds lanes.entry.set)
-        lanes.entry.values.now lanes.entry.flags.now (length lanes.entry.flags.now)) }
+    ensures { result ≡ folded_values (value_of Op.Sum) true (values_in lanes.entry) }
 {
     let FlaggedLanes { flags, set, .. } = lanes;
     let mut missed: usize = 0;
@@ -210,8 +207,7 @@ fn known_identity(op: Op, identity: i64) -> i64
 /// set it folds the identity. It reads each value before it looks at the flag, so no lane needs a branch.
 fn fold_each_flagged(op: Op, counts: bool, identity: i64, lanes: FlaggedLanes<'_>) -> Option<i64>
     requires { identity_of op ≡ Some identity }
-    ensures { result ≡ folded_values (value_of op) counts (flagged_values (holds lanes.entry.set)
-        lanes.entry.values.now lanes.entry.flags.now (length lanes.entry.flags.now)) }
+    ensures { result ≡ folded_values (value_of op) counts (values_in lanes.entry) }
 {
     let FlaggedLanes {
         values,
@@ -224,7 +220,7 @@ fn fold_each_flagged(op: Op, counts: bool, identity: i64, lanes: FlaggedLanes<'_
     for lane in 0..flags.len() {
         let passes = set.holds(flags[lane]);
         missed += if passes { 0 } else { 1 };
-        let taken = counted_value(counts, values[lane]);
+        let taken = counted_value(counts, values.at_lane(lane));
         let value = if passes { taken } else { identity };
         folded = op.apply(folded, value);
     }

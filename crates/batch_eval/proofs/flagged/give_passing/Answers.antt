@@ -31,7 +31,7 @@ returns-clause-fed g c = λ later images xs took.
     let whole = each_filtered test env c.args.line.first (length l.values.now) lane (λ k. flag_of (set (at flags k))) r
     c.args.tested.end reaches in
     let within : r.live ≤ length flags = omega (arith, c.flags_of.ensures.reached.within, c.flags_of.ensures.flags) in
-    let cut = flags_cut set i.start i.places.now i.values.now flags r.live within in
+    let cut = flags_cut set i.start i.places.now (at i.values.now) flags r.live within in
     let e = end_after c.args.tested.end c.args.line.first (origin_at l.start l.places.now r.live) r.fault in
     let p : ℕ → Bool = λ k. is_set (flag_of (set (at flags k))) in
     let chosen = set_front p lane r.live (length l.values.now) c.flags_of.ensures.reached.within in

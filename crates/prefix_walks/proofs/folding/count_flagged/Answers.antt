@@ -5,6 +5,7 @@ use Rattle.reduce_ops.specs.Operators.{value_of}
 use Rattle.reduce_ops.specs.declared.op.Op.TheVariants.{Sum}
 use Rattle.batch_eval.specs.Lanes.{at}
 use Rattle.batch_eval.specs.Batches.{flagged_values, holds}
+use Rattle.batch_eval.specs.LaneValues.{value_at}
 use Rattle.prefix_walks.specs.Batches.{folded_values}
 use Rattle.prefix_walks.proofs.FlaggedFolds.{ones_folded, passed_set, values_unset}
 use Rattle.prefix_walks.proofs.folding.count_flagged.Goals.{then-holds, else-holds}
@@ -12,7 +13,7 @@ use Rattle.prefix_walks.proofs.folding.count_flagged.Goals as goal
 
 pub loop-lane-preserved : goal.loop-lane-preserved
 loop-lane-preserved c =
-    let values = c.args.lanes.values.now in
+    let values = value_at c.args.lanes.values in
     let flags = c.args.lanes.flags.now in
     let set = holds c.args.lanes.set in
     let n = c.loop-lane.lane in
@@ -35,7 +36,7 @@ loop-lane-preserved c =
 
 pub returns-else-missed-flags : goal.returns-else-missed-flags
 returns-else-missed-flags c =
-    let values = c.args.lanes.values.now in
+    let values = value_at c.args.lanes.values in
     let flags = c.args.lanes.flags.now in
     let set = holds c.args.lanes.set in
     let n = c.loop-lane.lane in

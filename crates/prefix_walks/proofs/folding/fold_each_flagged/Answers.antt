@@ -3,6 +3,7 @@ use Rattle.std.proofs.Common.{◌∙◌, arith, rules}
 use Rattle.reduce_ops.specs.Operators.{value_of}
 use Rattle.batch_eval.specs.Lanes.{at}
 use Rattle.batch_eval.specs.Batches.{flagged_values, holds}
+use Rattle.batch_eval.specs.LaneValues.{value_at}
 use Rattle.prefix_walks.specs.Batches.{each_one, folded_values}
 use Rattle.prefix_walks.proofs.FlaggedFolds.{AllFit, fit_set, flagged_folded, folded_from, folded_set, folded_unset}
 use Rattle.prefix_walks.proofs.FlaggedFolds.{none_folded, passed_set, values_unset}
@@ -11,7 +12,7 @@ use Rattle.prefix_walks.proofs.folding.fold_each_flagged.Goals as goal
 
 pub loop-lane-preserved : goal.loop-lane-preserved
 loop-lane-preserved c =
-    let values = c.args.lanes.values.now in
+    let values = value_at c.args.lanes.values in
     let flags = c.args.lanes.flags.now in
     let set = holds c.args.lanes.set in
     let n = c.loop-lane.lane in
@@ -41,7 +42,7 @@ loop-lane-preserved c =
       fits = elim c.if-passes.branch [
         | then-passes w ↦
             let passed : set (at flags n) ≡ true = sym flag ∙ w.if-passes.true in
-            let here : FitsSigned w64 (at values n) = search rules in
+            let here : FitsSigned w64 (values n) = search rules in
             fit_set set values flags n passed here so_far.fits
         | else-passes w ↦
             let unset : set (at flags n) ≡ false = sym flag ∙ w.if-passes.false in
@@ -52,8 +53,8 @@ loop-lane-preserved c =
             let passed : set (at flags n) ≡ true = sym flag ∙ w.if-passes-2.true in
             let counted_fits : to_z w64 (of_z w64 c.counted_value-taken.result) ≡ c.counted_value-taken.result =
             search rules in
-            let value_fits : to_z w64 (of_z w64 (at values n)) ≡ at values n = search rules in
-            let value : to_z w64 c.if-passes-2.value-bits ≡ each_one counts (at values n) =
+            let value_fits : to_z w64 (of_z w64 c.at_lane.result) ≡ values n = search rules in
+            let value : to_z w64 c.if-passes-2.value-bits ≡ each_one counts (values n) =
             w.value-is ∙ counted_fits ∙ c.counted_value-taken.ensures ∙ ap (each_one counts) value_fits in
             ap (λ (a : ℤ). value_of op a (to_z w64 c.if-passes-2.value-bits)) so_far.folded
             ∙ ap (value_of op (folded_from set values flags op counts identity n)) value
@@ -69,7 +70,7 @@ loop-lane-preserved c =
 
 pub returns-then-missed-flags : goal.returns-then-missed-flags
 returns-then-missed-flags c =
-    let values = c.args.lanes.values.now in
+    let values = value_at c.args.lanes.values in
     let flags = c.args.lanes.flags.now in
     let set = holds c.args.lanes.set in
     let n = c.loop-lane.lane in
@@ -82,7 +83,7 @@ returns-then-missed-flags c =
 
 pub returns-else-missed-flags : goal.returns-else-missed-flags
 returns-else-missed-flags c =
-    let values = c.args.lanes.values.now in
+    let values = value_at c.args.lanes.values in
     let flags = c.args.lanes.flags.now in
     let set = holds c.args.lanes.set in
     let n = c.loop-lane.lane in

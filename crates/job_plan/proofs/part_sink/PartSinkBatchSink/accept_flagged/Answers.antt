@@ -1,6 +1,8 @@
 use Rattle.std.proofs.Common.{refl, subst, sym}
 use Rattle.trace.specs.Trace.{Trace}
-use Rattle.batch_eval.specs.Batches.{flagged_items, holds}
+use Rattle.batch_eval.specs.Batches.{holds}
+use Rattle.batch_eval.specs.BatchItems.{set_in}
+use Rattle.batch_eval.specs.LaneValues.{value_at}
 use Rattle.batch_eval.proofs.FlaggedLemmas.{values_flagged}
 use Rattle.job_plan.specs.declared.part.Part.{Part}
 use Rattle.job_plan.specs.Parts.{HasTaken}
@@ -12,8 +14,8 @@ pub returns-then-push_flagged-clause-fed : goal.returns-then-push_flagged-clause
 returns-then-push_flagged-clause-fed g c = λ xs took.
     let l = c.args.lanes in
     let e = end_in g.K.EndBrand.last in
-    let items = flagged_items (holds l.set) l.start l.origins.now l.values.now l.flags.now in
-    let same = values_flagged (holds l.set) l.start l.origins.now l.values.now l.flags.now in (
+    let items = set_in l in
+    let same = values_flagged (holds l.set) l.start l.origins.now (value_at l.values) l.flags.now in (
       (
         took.0,
         took.1,
