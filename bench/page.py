@@ -47,6 +47,15 @@ def shown(figure):
     return f'{figure:.{0 if figure >= 100 else 1 if figure >= 10 else 2}f}' if isinstance(figure, float) else str(figure)
 
 
+def row_of(found, cell):
+    """The figures of the row with this title, or of the one whose title goes on with a comma."""
+    longer = [title for title in found if title.startswith(f'{cell}, ')]
+    for title in (cell, cell.strip('`'), cell.split(':')[0], *longer):
+        if title in found:
+            return found[title]
+    sys.exit(f'page: no row has the title {cell!r}')
+
+
 def filled(text, program):
     """The lines of a page with new figures. The command that begins a paragraph makes the table below it."""
     command, heads = None, None
@@ -63,8 +72,7 @@ def filled(text, program):
             if heads is None:
                 heads = cells
             elif not line.startswith('|---'):
-                found, title = figures(*command, program), cells[0]
-                of_row = next(found[it] for it in (title, title.strip('`'), title.split(':')[0]) if it in found)
+                of_row = row_of(figures(*command, program), cells[0])
                 line = f'| {" | ".join([cells[0], *(shown(of_row.get(head, "-")) for head in heads[1:])])} |'
         yield line
 
@@ -74,9 +82,10 @@ def page():
 
     bench/run page [--write] [PROGRAM]
 
-    A table keeps its rows and columns: a figure is what the command shows for the row's title, which is the first cell or stands
-    before its colon, below the column's head. `-` is a peer that doesn't do the task, or isn't installed. The line that begins with
-    `Machine:` says where and when. Without --write the pages are printed. All takes some ten minutes, on a machine without other work.
+    A table keeps its rows and columns: a figure is what the command shows for the row's title, below the column's head. The title
+    is the first cell, stands before its colon, or begins with it and a comma. `-` is a peer that doesn't do the task, or isn't
+    installed. The line that begins with `Machine:` says where and when. Without --write the pages are printed. All takes some ten
+    minutes or more, on a machine without other work.
     """
     options = options_of(page.__doc__, write=False)
     for name in PAGES:
