@@ -84,8 +84,8 @@ def page():
 
     A table keeps its rows and columns: a figure is what the command shows for the row's title, below the column's head. The title
     is the first cell, stands before its colon, or begins with it and a comma. `-` is a peer that doesn't do the task, or isn't
-    installed. The line that begins with `Machine:` says where and when. Without --write the pages are printed. All takes some ten
-    minutes or more, on a machine without other work.
+    installed. The line that begins with `Machine:` says where and when. Without --write the pages are printed. All takes some
+    fifteen minutes, on a machine without other work.
     """
     options = options_of(page.__doc__, write=False)
     for name in PAGES:
