@@ -1,7 +1,7 @@
 -- Condition: what registers hold, lane by lane, and how far a step over lanes came.
-use Rattle.std.specs.Int.{w64, cast_unsigned}
-use Rattle.std.specs.Prelude.{◌≡◌, ℕ, ◌+◌, ◌-◌, ◌<◌, ◌≤◌, ◌^◌, ◌%◌, ℤ, pos, negsuc, Bool, true, false, not, List}
-use Rattle.std.specs.Prelude.{length}
+use Rattle.std.specs.Int.{w64, cast_unsigned, int_rem_euclid}
+use Rattle.std.specs.Prelude.{◌≡◌, ℕ, ◌<◌, ◌≤◌, ◌^◌, ◌%◌, ℤ, ◌-ℤ◌, ◌≤ℤ◌, pos, negsuc, unsigned_abs, Bool, true, false}
+use Rattle.std.specs.Prelude.{not, List, length}
 use Rattle.std.specs.Prelude.{slice_index_or, Option, Some, None, Result, Ok, Err}
 use Rattle.std.specs.Ordering.{int_eq}
 use Rattle.lambda_values.specs.declared.fault.FaultKind.{FaultKind}
@@ -62,7 +62,7 @@ lower_half y = pos (cast_unsigned w64 y % 2 ^ 32)
 
 -- how far a number is from the least one, modulo 2^64
 abbrev pub gap : ℤ → ℤ → ℕ
-gap least x = (cast_unsigned w64 x + (2 ^ 64 - cast_unsigned w64 least)) % 2 ^ 64
+gap least x = unsigned_abs (int_rem_euclid (x -ℤ least) (pos (2 ^ 64)))
 
 -- what a step makes of a number
 abbrev pub step_value : Step → ℤ → ℤ
@@ -98,6 +98,13 @@ abbrev pub HasBeside : Beside → ℕ → Type 0
 HasBeside (beside.Register ys s) n = n ≤ length ys.now
 HasBeside (beside.Number s y) n = Unit {0}
 HasBeside (beside.NumberFirst x) n = Unit {0}
+
+-- the other operand is within two bounds at each of these lanes, and the one that is held goes through no step
+abbrev pub BesideWithin : ℤ → ℤ → Beside → ℕ → Type 0
+BesideWithin least greatest (beside.Register ys s) n =
+    (k : ℕ) → k < n → (least ≤ℤ step_value s (at ys.now k)) × (step_value s (at ys.now k) ≤ℤ greatest)
+BesideWithin least greatest (beside.Number s y) n = (s ≡ step.Stay) × (least ≤ℤ y) × (y ≤ℤ greatest)
+BesideWithin least greatest (beside.NumberFirst x) n = (least ≤ℤ x) × (x ≤ℤ greatest)
 
 -- what a condition chooses at a lane
 abbrev pub branch_at : Branch → ℕ → ℤ

@@ -11,7 +11,7 @@ use crate::division::{
     DivideByReciprocal, Division, FloorDivideByReciprocal, FloorRemainderByReciprocal, Natural,
     RemainderByReciprocal,
 };
-use crate::exact::{NATURAL, SHORT, is_within, lanes_within, of_factors, of_terms};
+use crate::exact::{NATURAL, SHORT, lanes_within, of_factors, of_terms};
 use crate::kernel::{
     Absolute, Add, AddExact, And, Complement, Divide, Equal, FloorDivide, FloorRemainder, Greater,
     GreaterOrEqual, Infix, Kernel, Less, LessOrEqual, Max, Min, Multiply, MultiplyExact, Negate,
@@ -21,7 +21,7 @@ use crate::kernel::{
 use crate::lanes::{Lanes, Number, Own, Register, Stepped};
 use crate::loops::{divide, run};
 use crate::multiply::{MultiplyByHalf, is_half};
-use crate::operands::{Beside, Held, Step, by_kernel, steps_within};
+use crate::operands::{Beside, Held, Step, beside_within, by_kernel};
 use crate::power::{
     DivideByPower, FloorDivideByPower, FloorRemainderByPower, RemainderByPower, exponent_of,
 };
@@ -74,16 +74,19 @@ fn by_infix_lanes<A: Lanes>(
         (at out.new) live result }
 {
     match (op, beside) {
+        (Infix::Compute(BinaryOperator::AddExact), _) => {
+            by_exact::<AddExact, Add, A>(of_terms(), a, beside, live, out)
+        }
+        (Infix::Compute(BinaryOperator::SubtractExact), _) => {
+            by_exact::<SubtractExact, Subtract, A>(of_terms(), a, beside, live, out)
+        }
+        (Infix::Compute(BinaryOperator::MultiplyExact), _) => {
+            by_exact::<MultiplyExact, Multiply, A>(of_factors(), a, beside, live, out)
+        }
+        (Infix::Alone(UnaryOperator::NegateExact), _) => {
+            by_exact::<NegateExact, Negate, A>(of_terms(), a, beside, live, out)
+        }
         (_, Beside::Number(step, y)) => by_number(op, a, step, y, live, out),
-        (Infix::Compute(BinaryOperator::AddExact), Beside::Register(ys, step)) => {
-            by_exact_lanes::<AddExact, Add, A>(of_terms(), a, ys, step, live, out)
-        }
-        (Infix::Compute(BinaryOperator::SubtractExact), Beside::Register(ys, step)) => {
-            by_exact_lanes::<SubtractExact, Subtract, A>(of_terms(), a, ys, step, live, out)
-        }
-        (Infix::Compute(BinaryOperator::MultiplyExact), Beside::Register(ys, step)) => {
-            by_exact_lanes::<MultiplyExact, Multiply, A>(of_factors(), a, ys, step, live, out)
-        }
         _ => by_operator(op, a, beside, live, out),
     }
 }
@@ -115,15 +118,6 @@ fn by_number<A: Lanes>(op: Infix, a: A, step: Step, y: i64, live: usize, out: &m
             by_divisor::<FloorRemainderByPower, FloorRemainderByReciprocal, FloorRemainder, A>(
                 a, y, live, out,
             )
-        }
-        (Infix::Compute(BinaryOperator::AddExact), Step::Stay) => {
-            by_exact_number::<AddExact, Add, A>(of_terms(), a, y, live, out)
-        }
-        (Infix::Compute(BinaryOperator::SubtractExact), Step::Stay) => {
-            by_exact_number::<SubtractExact, Subtract, A>(of_terms(), a, y, live, out)
-        }
-        (Infix::Alone(UnaryOperator::NegateExact), Step::Stay) => {
-            by_exact_number::<NegateExact, Negate, A>(of_terms(), a, y, live, out)
         }
         _ => by_operator(op, a, beside, live, out),
     }
@@ -180,35 +174,11 @@ fn by_binary<A: Lanes>(
         FloorDivide FloorRemainder AddExact SubtractExact MultiplyExact)
 }
 
-/// An exact operator and a number: the wrapping operator, where no operand is out of these bounds.
-fn by_exact_number<K: Kernel, W: Kernel, A: Lanes>(
+/// An exact operator between lanes and another operand: the wrapping operator, where no operand is out of these bounds.
+fn by_exact<K: Kernel, W: Kernel, A: Lanes>(
     bounds: (i64, i64),
     a: A,
-    y: i64,
-    live: usize,
-    out: &mut [i64],
-) -> Reached
-    requires bounds { bounds.0 ≤ℤ bounds.1 }
-    requires wraps { (x : ℤ) → bounds.0 ≤ℤ x → x ≤ℤ bounds.1 → bounds.0 ≤ℤ y → y ≤ℤ bounds.1
-        → W.value x y ≡ K.value x y }
-    requires a { live ≤ A.count a }
-    requires out { live ≤ length out.old }
-    ensures { Reaches (λ k. K.value (A.number a (at out.old k) k) y) (at out.new) live result }
-{
-    if is_within(bounds, y) && lanes_within(a, bounds, live, out) {
-        run::<W, A, Number>(a, Number(y), live, out)
-    } else {
-        run::<K, A, Number>(a, Number(y), live, out)
-    }
-}
-
-/// An exact operator of lanes and of a register after a step: the wrapping operator, where no operand is out of these
-/// bounds.
-fn by_exact_lanes<K: Kernel, W: Kernel, A: Lanes>(
-    bounds: (i64, i64),
-    a: A,
-    ys: &[i64],
-    step: Step,
+    beside: Beside<'_>,
     live: usize,
     out: &mut [i64],
 ) -> Reached
@@ -216,13 +186,12 @@ fn by_exact_lanes<K: Kernel, W: Kernel, A: Lanes>(
     requires wraps { (x y : ℤ) → bounds.0 ≤ℤ x → x ≤ℤ bounds.1 → bounds.0 ≤ℤ y → y ≤ℤ bounds.1
         → W.value x y ≡ K.value x y }
     requires a { live ≤ A.count a }
-    requires ys { live ≤ length ys.now }
+    requires beside { HasBeside beside live }
     requires out { live ≤ length out.old }
-    ensures { Reaches (λ k. K.value (A.number a (at out.old k) k) (step_value step (at ys.now k)))
+    ensures { Reaches (λ k. beside_value K.value beside.entry (A.number a (at out.old k) k) k)
         (at out.new) live result }
 {
-    let beside = Beside::Register(ys, step);
-    if lanes_within(a, bounds, live, out) && steps_within(ys, step, bounds, live) {
+    if beside_within(beside, bounds, live) && lanes_within(a, bounds, live, out) {
         by_kernel::<W, A>(a, beside, live, out)
     } else {
         by_kernel::<K, A>(a, beside, live, out)

@@ -1,13 +1,14 @@
 //! An operator over lanes: the loop for where its operands are.
 
 ghost use Rattle.batch_eval.specs.Batches.{holds};
-ghost use Rattle.batch_eval.specs.Lanes.{HasBeside, HasBranch, HasHeld, Reaches, at, beside_value, branch_at, held_at};
+ghost use Rattle.batch_eval.specs.Lanes.{BesideWithin, HasBeside, HasBranch, HasHeld, Reaches, at, beside_value};
+ghost use Rattle.batch_eval.specs.Lanes.{branch_at, held_at};
 ghost use Rattle.batch_eval.specs.Choices.{connected_flag, lane_passes};
 ghost use Rattle.batch_eval.specs.Lanes.{flag_of, step_value};
 ghost use Rattle.std.specs.Prelude.{◌≡◌, ◌<◌, ◌≤◌, ◌≤ℤ◌, ℕ, IsTrue, Ok, length, if◌then◌else◌};
 
 use crate::choose::select;
-use crate::exact::{lanes_pass, lanes_within};
+use crate::exact::{is_within, lanes_pass, lanes_within};
 use crate::flag::{BothSet, EitherSet};
 use crate::kernel::{
     Add, And, First, Kernel, Or, ShiftLeft, ShiftRight, ShiftRightUnsigned, Subtract, Swapped, Xor,
@@ -150,14 +151,21 @@ pub(crate) fn by_step<K: Kernel, A: Lanes, B: Lanes>(
     after_step!(step, A, a, lanes => run::<K, _, B>(lanes, b, live, out))
 }
 
-/// Whether each of these numbers after a step is within two bounds.
-pub(crate) fn steps_within(xs: &[i64], step: Step, bounds: (i64, i64), live: usize) -> bool
+/// Whether the other operand is within two bounds at each of these lanes, and the operand that is held goes through no
+/// step.
+pub(crate) fn beside_within(beside: Beside<'_>, bounds: (i64, i64), live: usize) -> bool
     requires bounds { bounds.0 ≤ℤ bounds.1 }
-    requires xs { live ≤ length xs.now }
-    ensures { IsTrue result → (k : ℕ) → k < live
-        → (bounds.0 ≤ℤ step_value step (at xs.now k)) × (step_value step (at xs.now k) ≤ℤ bounds.1) }
+    requires beside { HasBeside beside live }
+    ensures { IsTrue result → BesideWithin bounds.0 bounds.1 beside.entry live }
 {
-    after_step!(step, Register<'_>, Register(xs), lanes => lanes_within(lanes, bounds, live, xs))
+    match beside {
+        Beside::Register(ys, step) => {
+            after_step!(step, Register<'_>, Register(ys), lanes => lanes_within(lanes, bounds, live, ys))
+        }
+        Beside::Number(Step::Stay, y) => is_within(bounds, y),
+        Beside::Number(_, _) => false,
+        Beside::NumberFirst(x) => is_within(bounds, x),
+    }
 }
 
 /// What a test says of an operand after a step, as flags.

@@ -20,14 +20,11 @@ abbrev pub flow_unless : Bool → Flow → Flow
 flow_unless false f = f
 flow_unless true f = flow.Enough
 
--- helper: it was taken, unless the sink has left
+-- it was taken; or the sink has left, since a place that decides lies at or before the start of its piece
 abbrev pub UnlessLeft : Bool → (ℕ → Type 0) → ℕ → Type 0 → Type 0
 UnlessLeft false decides from taken = taken
 UnlessLeft true decides from taken = IsDecided decides from
 
--- a sink that looks at places which decide has taken these items; or it has left, since one lies at or before the
--- start of its piece
-abbrev pub HasLooked : {S W : Type 0} → (S → List Item → Type 0) → (W → ℕ → Type 0) → (ℕ → Type 0) → ℕ → ℕ → W → Bool
-    → S → List Item → Type 0
-HasLooked h places decides from start stop left s xs =
-    (start ≡ from) × ((c : ℕ) → places stop c → decides c) × UnlessLeft left decides from (h s xs)
+-- each place that is known decides what the walk is for
+abbrev pub KnowsPlaces : {W : Type 0} → (W → ℕ → Type 0) → (ℕ → Type 0) → W → Type 0
+KnowsPlaces places decides stop = (c : ℕ) → places stop c → decides c

@@ -2,7 +2,7 @@
 
 ghost use Rattle.std.specs.Prelude.{◌≡◌, ◌≤◌, ℕ, Bool, true, false, List};
 ghost use Rattle.lambda_values.specs.declared.item.Item.{Item as item};
-ghost use Rattle.job_plan.specs.Stretches.{HasLooked, IsDecided, flow_unless};
+ghost use Rattle.job_plan.specs.Stretches.{IsDecided, KnowsPlaces, UnlessLeft, flow_unless};
 
 use batch_eval::{BatchSink, FlaggedLanes, LaneItems};
 use early_stop::Stop;
@@ -75,8 +75,8 @@ fn is_seen<W: Stop>(stop: &mut W, position: u64, until_look: &mut u64, values: u
 }
 
 impl<P: StartBrand, S: BatchSink + Drop, W: Stop> LongSink for Looking<'_, P, S, W> {
-    ghost has_taken = { λ sink items.
-        HasLooked S.has_taken W.decides P.decides P.from sink.from sink.stop.now sink.has_left sink.inner items };
+    ghost has_taken = { λ sink items. (sink.from ≡ P.from) × KnowsPlaces W.decides P.decides sink.stop.now
+        × UnlessLeft sink.has_left P.decides P.from (S.has_taken sink.inner items) };
 
     ghost flow = { λ sink. flow_unless sink.has_left (S.flow sink.inner) };
 

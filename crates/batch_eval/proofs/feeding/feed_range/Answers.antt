@@ -1,4 +1,4 @@
-use Rattle.std.proofs.Common.{◌≡◌, ◌∙◌, [], List, add-one, sym}
+use Rattle.std.proofs.Common.{◌≡◌, ◌∙◌, [], add-one, sym}
 use Rattle.lambda_values.specs.Term.{truth_of}
 use Rattle.batch_eval.proofs.SetItemLemmas.{none_left}
 use Rattle.batch_eval.proofs.feeding.feed_range.Goals as goal

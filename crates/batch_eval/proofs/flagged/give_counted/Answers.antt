@@ -5,7 +5,7 @@ use Rattle.lambda_values.specs.declared.item.Item.{Item}
 use Rattle.trace.specs.declared.item.End.TheVariants as end
 use Rattle.trace.specs.Sinks.{IsFed}
 use Rattle.trace.specs.Stages.{filter, of_item}
-use Rattle.trace.specs.Trace.{Trace, each, trace}
+use Rattle.trace.specs.Trace.{Trace, each}
 use Rattle.batch_eval.specs.Batches.{counted_item, flagged_items, gathered, holds}
 use Rattle.batch_eval.specs.Lanes.{at, flag_of, is_set}
 use Rattle.batch_eval.proofs.FlaggedLemmas.{flags_cut}

@@ -1,7 +1,7 @@
-use Rattle.std.proofs.Common.{List, true≢false, sym, ◌∙◌}
+use Rattle.std.proofs.Common.{List, true≢false, sym, ◌≡◌, ◌∙◌}
 use Rattle.lambda_values.specs.declared.item.Item.{Item}
 use Rattle.job_plan.specs.declared.looking.Looking.{Looking}
-use Rattle.job_plan.specs.Stretches.{HasLooked}
+use Rattle.job_plan.specs.Stretches.{KnowsPlaces, UnlessLeft}
 use Rattle.job_plan.proofs.LookLemmas.{inner_flow, inner_wants, not_left, still_taken, unless_left}
 use Rattle.job_plan.proofs.WalkLemmas.{fed_as}
 use Rattle.job_plan.proofs.looking.LookingBatchSink.accept_lanes.Goals as goal
@@ -20,8 +20,8 @@ returns-clause-fed g c = λ xs looked.
     let self = c.args.self.now in
     let stays = not_left self.has_left (g.S.LongSink.flow self.inner) c.requires.wants in
     fed_as h
-    (λ (l : Looking g.row.P.Denot g.row.S.Denot g.row.W.Denot) (ys : List Item). HasLooked h g.W.Stop.decides decides
-    from l.from l.stop.now l.has_left l.inner ys)
+    (λ (l : Looking g.row.P.Denot g.row.S.Denot g.row.W.Denot) (ys : List Item). (l.from ≡ from)
+    × KnowsPlaces g.W.Stop.decides decides l.stop.now × UnlessLeft l.has_left decides from (h l.inner ys))
     c.accept_lanes.new.self _
     (λ ys took. (
       looked.0,
