@@ -17,7 +17,8 @@ use Rattle.trace.proofs.JoinLemmas.{append_faulted, append_grouped, pipe_append,
 use Rattle.slice_ops.specs.Slices.{AbstractSlice, sliced}
 use Rattle.job_plan.specs.declared.link_sink.Passage.{Passage}
 use Rattle.job_plan.specs.declared.link_sink.Passage.TheVariants as passage
-use Rattle.job_plan.specs.Passages.{EndsAs, HasPassed, IsAfter, fed_by, onward, passage_flow, through_link}
+use Rattle.job_plan.specs.Passages.{AbstractJunction, EndsAs, HasPassedTo, IsAfter, fed_by, onward, passage_flow}
+use Rattle.job_plan.specs.Passages.{through_link}
 use Rattle.job_routes.specs.Legs.{AbstractSegment, walk_of, AbstractEnd, last_stage}
 use Rattle.job_plan.proofs.WalkLemmas.{enough_at_last, taken_none, piece_in_two, stands_more, stands_fault}
 use Rattle.job_plan.proofs.WalkLemmas.{stands_enough}
@@ -43,10 +44,10 @@ pub if_ok_both : {A E : Type 0} (P Q R : A → Type 0) (r : Result A E) → ((a 
 if_ok_both P Q R (Ok a) f p q = f a p q
 if_ok_both P Q R (Err e) f p q = p
 
-module _ {S : Type 0} (h : S → List Item → Type 0) (f : S → Flow) (begun : AbstractSlice) (n : ℕ) (g : AbstractSegment)
-    (env : Numbers) where
+module _ {S : Type 0} (h : S → List Item → Type 0) (f : S → Flow) (begun : AbstractSlice)
+    (j : AbstractJunction) where
   abbrev Passed : AbstractSlice → Passage → S → List Item → Type 0
-  Passed = HasPassed h f begun n g env
+  Passed = HasPassedTo h f begun j
 
   -- before any item
   passed_none : (s : S) → h s [] → Passed begun passage.Open s []
@@ -57,7 +58,8 @@ module _ {S : Type 0} (h : S → List Item → Type 0) (f : S → Flow) (begun :
   closed_none s took closed = (
     [],
     took,
-    λ later. ap (walk_of g env) (closed n env later) ∙ pipe_ended g.first g.stages env end.Done,
+    λ later. ap (walk_of j.next j.env) (closed j.stage j.env later)
+        ∙ pipe_ended j.next.first j.next.stages j.env end.Done,
   )
 
   pub passed_first : (p : Passage) (s : S) → h s [] → IsAfter fed.More end.Done begun p → Passed begun p s []
@@ -68,41 +70,43 @@ module _ {S : Type 0} (h : S → List Item → Type 0) (f : S → Flow) (begun :
   passed_first passage.Refused s took next = absurd next
 
   module _ (xs items win : List Item) (e : End) (rest left : AbstractSlice) (ys : List Item) (s : S)
-      (so_far : (later : Trace) → onward h f begun n g env xs later
-      ≡ append (trace ys end.Done) (through_link rest n g env later))
-      (cut : (later : Trace) → sliced rest n env (append (trace items end.Done) later)
-      ≡ append (trace win e) (sliced left n env later)) where
+      (so_far : (later : Trace) → onward h f begun j xs later
+      ≡ append (trace ys end.Done) (through_link rest j later))
+      (cut : (later : Trace) → sliced rest j.stage j.env (append (trace items end.Done) later)
+      ≡ append (trace win e) (sliced left j.stage j.env later)) where
     -- what the items that pass become
     abbrev w : Trace
-    w = walk_of g env (trace win end.Done)
+    w = walk_of j.next j.env (trace win end.Done)
 
     -- what comes after them
     abbrev behind : Trace → Trace
-    behind later = append (trace [] e) (through_link left n g env later)
+    behind later = append (trace [] e) (through_link left j later)
 
-    with_end : walk_of g env (trace win e) ≡ append w (trace [] e)
+    with_end : walk_of j.next j.env (trace win e) ≡ append w (trace [] e)
     with_end =
         let none : List Item = [] in
-        ap (λ (zs : List Item). walk_of g env (trace zs e)) (sym (append-nil win))
-        ∙ pipe_more g.first g.stages env win none e ∙ ap (append w) (pipe_ended g.first g.stages env e)
+        ap (λ (zs : List Item). walk_of j.next j.env (trace zs e)) (sym (append-nil win))
+        ∙ pipe_more j.next.first j.next.stages j.env win none e
+        ∙ ap (append w) (pipe_ended j.next.first j.next.stages j.env e)
 
-    went : (later : Trace) → onward h f begun n g env (xs ++ items) later
+    went : (later : Trace) → onward h f begun j (xs ++ items) later
         ≡ append (trace ys end.Done) (append w (behind later))
     went later =
-        let u : Trace = sliced left n env later in
-        ap (λ (zs : List Item). through_link begun n g env (trace zs later.ending)) (append_assoc xs items later.items)
+        let u : Trace = sliced left j.stage j.env later in
+        ap (λ (zs : List Item). through_link begun j (trace zs later.ending)) (append_assoc xs items later.items)
         ∙ so_far (append (trace items end.Done) later)
-        ∙ ap (λ (t : Trace). append (trace ys end.Done) (walk_of g env t)) (cut later)
+        ∙ ap (λ (t : Trace). append (trace ys end.Done) (walk_of j.next j.env t)) (cut later)
         ∙ ap (append (trace ys end.Done))
-        (pipe_append g.first g.stages env (trace win e) u ∙ ap (λ (t : Trace). append t (walk_of g env u)) with_end
-        ∙ append_grouped w (trace [] e) (walk_of g env u))
+        (pipe_append j.next.first j.next.stages j.env (trace win e) u
+        ∙ ap (λ (t : Trace). append t (walk_of j.next j.env u)) with_end
+        ∙ append_grouped w (trace [] e) (walk_of j.next j.env u))
 
     grown : (zs : List Item) (t : Trace)
         → append (trace ys end.Done) (append (trace zs end.Done) t) ≡ append (trace (ys ++ zs) end.Done) t
     grown zs t = ap (λ (us : List Item). trace us t.ending) (sym (append_assoc ys zs t.items))
 
     all_went : w.ending ≡ end.Done → (later : Trace)
-        → onward h f begun n g env (xs ++ items) later ≡ append (trace (ys ++ w.items) end.Done) (behind later)
+        → onward h f begun j (xs ++ items) later ≡ append (trace (ys ++ w.items) end.Done) (behind later)
     all_went done later = went later ∙ ap
         (λ (k : End). append (trace ys end.Done) (append (trace w.items k) (behind later))) done
         ∙ grown w.items (behind later)
@@ -114,10 +118,11 @@ module _ {S : Type 0} (h : S → List Item → Type 0) (f : S → Flow) (begun :
       where
         by : (k : End) → e ≡ k → behind later ≡ trace [] e
         by end.Done is =
-            ap (λ (k : End). append (trace [] k) (through_link left n g env later)) is
-            ∙ ap (walk_of g env) (closed is n env later) ∙ pipe_ended g.first g.stages env end.Done
+            ap (λ (k : End). append (trace [] k) (through_link left j later)) is
+            ∙ ap (walk_of j.next j.env) (closed is j.stage j.env later)
+            ∙ pipe_ended j.next.first j.next.stages j.env end.Done
             ∙ ap (λ (k : End). trace [] k) (sym is)
-        by (end.Fault x) is = ap (λ (k : End). append (trace [] k) (through_link left n g env later)) is
+        by (end.Fault x) is = ap (λ (k : End). append (trace [] k) (through_link left j later)) is
             ∙ ap (λ (k : End). trace [] k) (sym is)
 
     -- all items that passed went on
@@ -126,7 +131,7 @@ module _ {S : Type 0} (h : S → List Item → Type 0) (f : S → Flow) (begun :
       ys ++ w.items,
       took.0,
       λ later. all_went took.1 later ∙ ap
-          (λ (k : End). append (trace (ys ++ w.items) end.Done) (append (trace [] k) (through_link left n g env later)))
+          (λ (k : End). append (trace (ys ++ w.items) end.Done) (append (trace [] k) (through_link left j later)))
           next,
     )
     went_on passage.Enough took next = absurd next
@@ -184,29 +189,29 @@ module _ {S : Type 0} (h : S → List Item → Type 0) (f : S → Flow) (begun :
     abbrev Suffices : Type 0
     Suffices = f s ≡ flow.Enough → (ys : List Item) (u : Trace) → h s ys → P (append (trace ys end.Done) u)
 
-    settled : (later : Trace) → Passed rest passage.Enough s xs → Suffices → P (onward h f begun n g env xs later)
+    settled : (later : Trace) → Passed rest passage.Enough s xs → Suffices → P (onward h f begun j xs later)
     settled later took p = subst P (sym (took.3 later).1) (p took.2 took.0 (took.3 later).0 took.1)
 
     ended : (x k : End) (later : Trace) → k ≡ x → Passed rest (passage.Ended x) s xs → Ends k
-        → P (onward h f begun n g env xs later)
+        → P (onward h f begun j xs later)
     ended x k later is took p = subst P (sym
         (took.2 later ∙ ap (λ (z : End). append (trace took.0 end.Done) (trace [] z)) (sym is))) (p took.0 took.1)
 
     pub closed_as : (p : Passage) (e k : End) → EndsAs p rest e (Some k) → Passed rest p s xs → Ends k → Suffices
-        → P (onward h f begun n g env xs (trace [] e))
+        → P (onward h f begun j xs (trace [] e))
     closed_as passage.Open e k ends took last enough =
         subst P (sym (took.2 (trace [] e)
-        ∙ ap (λ (t : Trace). append (trace took.0 end.Done) (walk_of g env t)) (ends n env)
-        ∙ ap (append (trace took.0 end.Done)) (pipe_ended g.first g.stages env k))) (last took.0 took.1)
+        ∙ ap (λ (t : Trace). append (trace took.0 end.Done) (walk_of j.next j.env t)) (ends j.stage j.env)
+        ∙ ap (append (trace took.0 end.Done)) (pipe_ended j.next.first j.next.stages j.env k))) (last took.0 took.1)
     closed_as passage.Enough e k ends took last enough = settled (trace [] e) took enough
     closed_as (passage.Ended x) e k ends took last enough = ended x k (trace [] e) ends took last
     closed_as passage.Refused e k ends took last enough = absurd ends
 
     pub enough_as : (p : Passage) (e k : End) (later : Trace) → EndsAs p rest e (Some k)
         → passage_flow p (f s) ≡ flow.Enough → Passed rest p s xs → Ends k → Suffices
-        → P (onward h f begun n g env xs later)
+        → P (onward h f begun j xs later)
     enough_as passage.Open e k later ends wants took last enough =
-        subst P (sym (took.2 later)) (enough wants took.0 (through_link rest n g env later) took.1)
+        subst P (sym (took.2 later)) (enough wants took.0 (through_link rest j later) took.1)
     enough_as passage.Enough e k later ends wants took last enough = settled later took enough
     enough_as (passage.Ended x) e k later ends wants took last enough = ended x k later ends took last
     enough_as passage.Refused e k later ends wants took last enough = absurd ends
@@ -238,10 +243,9 @@ module _ (P : Trace → Type 0) (g : AbstractSegment) (env : Numbers) (t : Trace
   none_fed p = p (walk_of g env t)
 
 -- a slice before any item
-pub begun_as : {S : Type 0} (h : S → List Item → Type 0) (f : S → Flow) (d e : AbstractSlice) (n : ℕ)
-    (g : AbstractSegment) (env : Numbers) (p : Passage) (s : S) → d ≡ e
-    → HasPassed h f d n g env d p s [] → HasPassed h f e n g env d p s []
-begun_as h f d e n g env p s is x = subst (λ (b : AbstractSlice). HasPassed h f b n g env d p s []) is x
+pub begun_as : {S : Type 0} (h : S → List Item → Type 0) (f : S → Flow) (d e : AbstractSlice) (j : AbstractJunction)
+    (p : Passage) (s : S) → d ≡ e → HasPassedTo h f d j d p s [] → HasPassedTo h f e j d p s []
+begun_as h f d e j p s is x = subst (λ (b : AbstractSlice). HasPassedTo h f b j d p s []) is x
 
 -- ---- from the part of no item
 

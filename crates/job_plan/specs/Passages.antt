@@ -9,24 +9,39 @@ use Rattle.trace.specs.declared.feeding.Fed.TheVariants as fed
 use Rattle.trace.specs.declared.sink.Flow.{Flow}
 use Rattle.trace.specs.declared.sink.Flow.TheVariants as flow
 use Rattle.trace.specs.Trace.{Trace, trace, nothing, append}
+use Rattle.slice_ops.specs.Rests.{rest_of}
 use Rattle.slice_ops.specs.Slices.{AbstractSlice, skip, sliced}
 use Rattle.batch_eval.specs.declared.pipeline.Pipeline.{Pipeline}
 use Rattle.trace.specs.Stages.{stages_of}
+use Rattle.job_plan.specs.declared.link_sink.Junction.{Junction}
 use Rattle.job_plan.specs.declared.link_sink.Passage.{Passage}
 use Rattle.job_plan.specs.declared.link_sink.Passage.TheVariants as passage
+use Rattle.job_plan.specs.declared.link_sink.Passing.{Passing}
 use Rattle.job_routes.specs.Legs.{AbstractLink, AbstractSegment, collecting, walk_of}
 
 -- a link that lets all items pass
 abbrev pub open_link : AbstractLink
 open_link = record { first = 0; stages = []; slice = skip 0 }
 
+-- where a slice stands: the number of its stage, and the stages after it with the values of names
+pub record AbstractJunction : Type 0 where
+  pub stage : ℕ
+  pub next : AbstractSegment
+  pub env : Numbers
+
 -- stages of the program, as a segment that keeps the values
 abbrev pub line_in : Pipeline → AbstractSegment
 line_in l = record { first = l.first; stages = stages_of l.stages.now; ending = collecting }
 
--- what a walk becomes in a slice, the stage with this number, and then in the stages of the next segment
-abbrev pub through_link : AbstractSlice → ℕ → AbstractSegment → Numbers → Trace → Trace
-through_link d n next env t = walk_of next env (sliced d n env t)
+abbrev pub junction_of : ℕ → Pipeline → AbstractJunction
+junction_of stage line = record { stage = stage; next = line_in line; env = line.env.now }
+
+abbrev pub junction_in : Junction → AbstractJunction
+junction_in j = junction_of j.stage j.next
+
+-- what a walk becomes in a slice that stands there, and then in the stages after it
+abbrev pub through_link : AbstractSlice → AbstractJunction → Trace → Trace
+through_link d j t = walk_of j.next j.env (sliced d j.stage j.env t)
 
 -- whether a slice wants items, if the next sink wants so
 abbrev pub passage_flow : Passage → Flow → Flow
@@ -64,18 +79,22 @@ fed_by passage.Enough = fed.Enough
 fed_by (passage.Ended e) = fed.Enough
 fed_by passage.Refused = fed.Enough
 
-module _ {S : Type 0} (has_taken : S → List Item → Type 0) (wants : S → Flow) (begun : AbstractSlice) (n : ℕ)
-    (next : AbstractSegment) (env : Numbers) where
+module _ {S : Type 0} (has_taken : S → List Item → Type 0) (wants : S → Flow) (begun : AbstractSlice)
+    (j : AbstractJunction) where
   -- what goes into the next sink, if these items went into the slice, and then this walk
   abbrev pub onward : List Item → Trace → Trace
-  onward xs later = through_link begun n next env (append (trace xs end.Done) later)
+  onward xs later = through_link begun j (append (trace xs end.Done) later)
 
-  -- these items went into a slice with this rest, and the next sink has taken what became of them
-  abbrev pub HasPassed : AbstractSlice → Passage → S → List Item → Type 0
-  HasPassed rest passage.Open s xs = (ys : List Item) × has_taken s ys
-      × ((later : Trace) → onward xs later ≡ append (trace ys end.Done) (through_link rest n next env later))
-  HasPassed rest passage.Enough s xs = (ys : List Item) × has_taken s ys × (wants s ≡ flow.Enough)
+  -- helper: by what is left of the slice, whether items go on, and the next sink
+  abbrev pub HasPassedTo : AbstractSlice → Passage → S → List Item → Type 0
+  HasPassedTo rest passage.Open s xs = (ys : List Item) × has_taken s ys
+      × ((later : Trace) → onward xs later ≡ append (trace ys end.Done) (through_link rest j later))
+  HasPassedTo rest passage.Enough s xs = (ys : List Item) × has_taken s ys × (wants s ≡ flow.Enough)
       × ((later : Trace) → (z : Trace) × (onward xs later ≡ append (trace ys end.Done) z))
-  HasPassed rest (passage.Ended e) s xs =
+  HasPassedTo rest (passage.Ended e) s xs =
       (ys : List Item) × has_taken s ys × ((later : Trace) → onward xs later ≡ append (trace ys end.Done) (trace [] e))
-  HasPassed rest passage.Refused s xs = ⊤
+  HasPassedTo rest passage.Refused s xs = ⊤
+
+  -- these items went into a slice, and the next sink has taken what became of them
+  abbrev pub HasPassed : Passing S → List Item → Type 0
+  HasPassed p xs = HasPassedTo (rest_of p.rest) p.passage p.inner.value xs

@@ -1,9 +1,9 @@
 //! A slice that comes after other stages, as a sink: what passes goes on at once, a batch at a time, through the stages
 //! after the slice and into the next sink. Nothing is kept.
 
-ghost use Rattle.std.specs.Prelude.{◌≡◌, ◌-◌, ◌≤◌, ℕ, List, [], drop, length, take, ⊤, ◌++◌, OnOk};
+ghost use Rattle.std.specs.Prelude.{◌≡◌, ◌-◌, ◌≤◌, List, [], drop, length, take, ⊤, ◌++◌, OnOk};
 ghost use Rattle.batch_eval.specs.Batches.{laid_items};
-ghost use Rattle.lambda_values.specs.Earlier.{Numbers, nothing_named};
+ghost use Rattle.lambda_values.specs.Earlier.{nothing_named};
 ghost use Rattle.trace.specs.Sinks.{IsFed, flow_after};
 ghost use Rattle.trace.specs.Trace.{Trace, append, trace};
 ghost use Rattle.trace.specs.declared.feeding.Fed.TheVariants as fed;
@@ -12,8 +12,9 @@ ghost use Rattle.lambda_values.specs.declared.item.Item.{Item as item};
 ghost use Rattle.slice_ops.specs.Rests.{rest_of};
 ghost use Rattle.slice_ops.specs.Slices.{AbstractSlice, limit, sliced};
 ghost use Rattle.batch_eval.specs.Pipelines.{piped};
-ghost use Rattle.job_plan.specs.Passages.{line_in, EndsAs, HasPassed, IsAfter, fed_by, passage_flow, through_link};
-ghost use Rattle.job_routes.specs.Legs.{AbstractSegment, collecting};
+ghost use Rattle.job_plan.specs.Passages.{AbstractJunction, EndsAs, HasPassed, IsAfter, fed_by, junction_in};
+ghost use Rattle.job_plan.specs.Passages.{passage_flow, through_link};
+ghost use Rattle.job_routes.specs.Legs.{collecting};
 
 use crate::closing::Closing;
 use crate::fronts::tested;
@@ -23,25 +24,21 @@ use slice_ops::{SliceCut, SliceRest};
 use std::marker::{Brand, PhantomData};
 use trace::{End, Fed, Flow, Item, LongSink, NoMemory};
 
-/// How a link of a walk began, and what comes after it, as contracts see it. No value has this type.
+/// How a slice of a walk began, and where it stands, as contracts see it. No value has this type.
 pub(crate) trait LinkBrand {
-    ghost rest: { AbstractSlice };
+    ghost begun: { AbstractSlice };
 
-    ghost stage: { ℕ };
-
-    ghost next: { AbstractSegment };
-
-    ghost env: { Numbers };
+    ghost junction: { AbstractJunction };
 }
 
 impl LinkBrand for Brand {
-    ghost rest = { limit 0 };
+    ghost begun = { limit 0 };
 
-    ghost stage = { 0 };
-
-    ghost next = { record { first = 0; stages = []; ending = collecting } };
-
-    ghost env = { nothing_named };
+    ghost junction = { record {
+      stage = 0;
+      next = record { first = 0; stages = []; ending = collecting };
+      env = nothing_named;
+    } };
 }
 
 /// Whether items go on from a slice.
@@ -187,17 +184,13 @@ fn pass<S: BatchSink + Drop>(
 ) -> Result<Fed, NoMemory>
     requires wants { passage_flow passing.old.passage (S.flow passing.old.inner.value) ≡ Flow.More }
     ensures fed { (begun : AbstractSlice) (xs : List item)
-        → HasPassed S.has_taken S.flow begun junction.entry.stage (line_in junction.entry.next)
-        junction.entry.next.env.now (rest_of passing.old.rest) passing.old.passage passing.old.inner.value xs
-        → IsFed (λ p. HasPassed S.has_taken S.flow begun junction.entry.stage
-        (line_in junction.entry.next) junction.entry.next.env.now (rest_of p.rest) p.passage p.inner.value) xs
+        → HasPassed S.has_taken S.flow begun (junction_in junction.entry) passing.old xs
+        → IsFed (HasPassed S.has_taken S.flow begun (junction_in junction.entry)) xs
         (trace (laid_items lanes.entry.start lanes.entry.places.now lanes.entry.values.now) end.Done)
         result passing.new }
     ensures all { OnOk result ((begun : AbstractSlice) (xs : List item)
-        → HasPassed S.has_taken S.flow begun junction.entry.stage (line_in junction.entry.next)
-        junction.entry.next.env.now (rest_of passing.old.rest) passing.old.passage passing.old.inner.value xs
-        → HasPassed S.has_taken S.flow begun junction.entry.stage (line_in junction.entry.next)
-        junction.entry.next.env.now (rest_of passing.new.rest) passing.new.passage passing.new.inner.value
+        → HasPassed S.has_taken S.flow begun (junction_in junction.entry) passing.old xs
+        → HasPassed S.has_taken S.flow begun (junction_in junction.entry) passing.new
         (xs ++ laid_items lanes.entry.start lanes.entry.places.now lanes.entry.values.now)) }
     ensures flow { passage_flow passing.new.passage (S.flow passing.new.inner.value) ≡ flow_after result }
 {
@@ -224,10 +217,8 @@ fn pass<S: BatchSink + Drop>(
 }
 
 impl<K: LinkBrand, S: Closing> LongSink for LinkSink<'_, '_, K, S> {
-    ghost has_taken = { λ sink items. (line_in sink.junction.next ≡ K.next) × (sink.junction.stage ≡ K.stage)
-        × (sink.junction.next.env.now ≡ K.env)
-        × HasPassed S.has_taken S.flow K.rest K.stage K.next K.env
-        (rest_of sink.passing.rest) sink.passing.passage sink.passing.inner.value items };
+    ghost has_taken = { λ sink items. (junction_in sink.junction ≡ K.junction)
+        × HasPassed S.has_taken S.flow K.begun K.junction sink.passing items };
 
     ghost flow = { λ sink. passage_flow sink.passing.passage (S.flow sink.passing.inner.value) };
 
@@ -271,7 +262,7 @@ impl<K: LinkBrand, S: Closing> BatchSink for LinkSink<'_, '_, K, S> {
 impl<K: LinkBrand, S: Closing> Closing for LinkSink<'_, '_, K, S> {
     type Made = S::Made;
 
-    ghost stands = { λ made t. S.stands made (through_link K.rest K.stage K.next K.env t) };
+    ghost stands = { λ made t. S.stands made (through_link K.begun K.junction t) };
 
     fn has_enough(&self) -> bool {
         match self.passing.passage {

@@ -4,7 +4,7 @@ ghost use Rattle.std.specs.Prelude.{◌≡◌, ◌≤◌, ◌<◌, ℕ, suc, [],
 ghost use Rattle.batch_eval.specs.Pipelines.{piped};
 ghost use Rattle.trace.specs.Trace.{Trace};
 ghost use Rattle.slice_ops.specs.Slices.{slice_of, sliced};
-ghost use Rattle.job_plan.specs.Passages.{line_in, open_link, through_link};
+ghost use Rattle.job_plan.specs.Passages.{junction_of, open_link, through_link};
 ghost use Rattle.job_routes.specs.Legs.{link_in, links_in, number_after, walk_through, linked};
 ghost use Rattle.job_plan.specs.Parts.{walk_in};
 
@@ -180,14 +180,12 @@ fn feed_link<K: LinkBrand, N: Nest, S: Closing>(
     registers: &mut Registers,
     sink: S,
 ) -> Result<S::Made, NoMemory>
-    requires slice { slice_of last.link.now.slice ≡ K.rest }
-    requires stage { number_after last.link.now.stages ≡ K.stage }
-    requires next { line_in last.next ≡ K.next }
-    requires env { last.next.env.now ≡ K.env }
+    requires slice { slice_of last.link.now.slice ≡ K.begun }
+    requires junction { junction_of (number_after last.link.now.stages) last.next ≡ K.junction }
     requires few { length last.before.links.now ≤ N.depth }
     requires passes { link_in last.before.pass_all.now ≡ open_link }
     requires begun { S.has_taken sink [] }
-    ensures { IfOk result (λ made. S.stands made (through_link K.rest K.stage K.next K.env (piped last.entry.before.line
+    ensures { IfOk result (λ made. S.stands made (through_link K.begun K.junction (piped last.entry.before.line
         (linked (links_in last.entry.before.links.now) last.entry.before.line.env.now (walk_in source.now))))) }
 {
     let LastLink { before, link, next } = last;

@@ -11,7 +11,7 @@ use Rattle.batch_eval.specs.Pipelines.{piped}
 use Rattle.job_plan.specs.declared.link_sink.Passage.{Passage}
 use Rattle.job_plan.specs.declared.link_sink.Passage.TheVariants as passage
 use Rattle.job_plan.specs.declared.link_sink.Passing.{Passing}
-use Rattle.job_plan.specs.Passages.{line_in, HasPassed}
+use Rattle.job_plan.specs.Passages.{HasPassed, HasPassedTo, junction_in}
 use Rattle.job_plan.proofs.PassageLemmas.{answered, passed_on}
 use Rattle.job_plan.proofs.link_sink.pass.Goals as goal
 
@@ -20,15 +20,13 @@ returns-clause-fed g c = λ begun xs took.
     let p = c.args.passing.now in
     let h = g.S.LongSink.has_taken in
     let f = g.S.LongSink.flow in
-    let n = c.args.junction.stage in
-    let next = line_in c.args.junction.next in
-    let env = c.args.junction.next.env.now in
+    let j = junction_in c.args.junction in
     let items = laid_items c.args.lanes.start c.args.lanes.places.now c.args.lanes.values.now in
     let cut = c.cut_of-cut.result in
     let win = take (cut.to - cut.from) (drop cut.from items) in
-    let here : HasPassed h f begun n next env (rest_of p.rest) passage.Open p.inner.value xs =
-    subst (λ (q : Passage). HasPassed h f begun n next env (rest_of p.rest) q p.inner.value xs) c.in-Open.is took in
-    let on = passed_on h f begun n next env xs items win cut.end (rest_of p.rest) (rest_of cut.rest) here.0
+    let here : HasPassedTo h f begun j (rest_of p.rest) passage.Open p.inner.value xs =
+    subst (λ (q : Passage). HasPassedTo h f begun j (rest_of p.rest) q p.inner.value xs) c.in-Open.is took in
+    let on = passed_on h f begun j xs items win cut.end (rest_of p.rest) (rest_of cut.rest) here.0
     c.hand_on.new.sink here.2 c.cut_of-cut.ensures.passes
     c.in-Ok.fed c.after-passage.result (subst
     (λ (ys : List Item). IsFed h here.0 (piped c.args.junction.next (trace ys end.Done)) (Ok c.in-Ok.fed)
@@ -37,8 +35,7 @@ returns-clause-fed g c = λ begun xs took.
     here.1))) c.in-Ok.ensures.flow c.after-passage.ensures in
     let t : Passing g.row.S.Denot = record
     { rest = cut.rest; passage = c.after-passage.result; inner = record p.inner { value = c.hand_on.new.sink } } in
-    let has : Passing g.row.S.Denot → List Item → Type 0 =
-    λ q zs. HasPassed h f begun n next env (rest_of q.rest) q.passage q.inner.value zs in
+    let has = HasPassed h f begun j in
     subst (λ (r : Fed). IsFed has xs (trace items end.Done) (Ok r) t) (sym c.answer.ensures)
     (answered has t xs items c.after-passage.result on)
 
@@ -47,15 +44,13 @@ returns-clause-all g c = λ begun xs took.
     let p = c.args.passing.now in
     let h = g.S.LongSink.has_taken in
     let f = g.S.LongSink.flow in
-    let n = c.args.junction.stage in
-    let next = line_in c.args.junction.next in
-    let env = c.args.junction.next.env.now in
+    let j = junction_in c.args.junction in
     let items = laid_items c.args.lanes.start c.args.lanes.places.now c.args.lanes.values.now in
     let cut = c.cut_of-cut.result in
     let win = take (cut.to - cut.from) (drop cut.from items) in
-    let here : HasPassed h f begun n next env (rest_of p.rest) passage.Open p.inner.value xs =
-    subst (λ (q : Passage). HasPassed h f begun n next env (rest_of p.rest) q p.inner.value xs) c.in-Open.is took in
-    passed_on h f begun n next env xs items win cut.end (rest_of p.rest) (rest_of cut.rest) here.0 c.hand_on.new.sink
+    let here : HasPassedTo h f begun j (rest_of p.rest) passage.Open p.inner.value xs =
+    subst (λ (q : Passage). HasPassedTo h f begun j (rest_of p.rest) q p.inner.value xs) c.in-Open.is took in
+    passed_on h f begun j xs items win cut.end (rest_of p.rest) (rest_of cut.rest) here.0 c.hand_on.new.sink
     here.2 c.cut_of-cut.ensures.passes
     c.in-Ok.fed c.after-passage.result (subst
     (λ (ys : List Item). IsFed h here.0 (piped c.args.junction.next (trace ys end.Done)) (Ok c.in-Ok.fed)
