@@ -18,6 +18,11 @@ pub(crate) fn stay_in_lanes(stages: &[Stage], takes_flags: bool) -> bool {
     takes_flags && after_stages(stages, TO_MOVE, true).is_some()
 }
 
+/// Whether both operands of a choice cost little and can't fault.
+pub(crate) fn are_cheap(chosen: Operand<'_>, other: Operand<'_>) -> bool {
+    is_cheap(chosen) && is_cheap(other)
+}
+
 /// Whether an operand costs little and can't fault.
 pub(crate) fn is_cheap(operand: Operand<'_>) -> bool {
     match operand {

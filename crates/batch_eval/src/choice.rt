@@ -9,7 +9,6 @@ ghost use Rattle.lambda_values.specs.Value.{chosen, truth_value};
 ghost use Rattle.batch_eval.specs.Batches.{holds};
 ghost use Rattle.std.specs.Prelude.{◌≡◌, ◌<◌, ◌≤◌, ℕ, IsTrue, Ok, length};
 
-use crate::cheap::is_cheap;
 use crate::choose::{Side, all_flags, gather, merge};
 use crate::in_place::lane_test;
 use crate::number_test::NumberTest;
@@ -24,6 +23,8 @@ use lambda_values::BoolExpr;
 pub(crate) struct Either<'a> {
     pub(crate) chosen: Operand<'a>,
     pub(crate) other: Operand<'a>,
+    /// Whether both cost little and can't fault.
+    pub(crate) are_cheap: bool,
 }
 
 /// Puts what a condition chooses into a register, up to its first fault. Where both operands are cheap and have no
@@ -172,7 +173,7 @@ fn eval_both(
         → chosen (holds set (at xs.now k)) (at_each inputs.entry (operand_value either.entry.chosen) k)
         (at_each inputs.entry (operand_value either.entry.other) k) ≡ Ok (at out.new k) }
 {
-    if !is_cheap(either.chosen) || !is_cheap(either.other) {
+    if !either.are_cheap {
         return false;
     }
     let (ones, rest) = room.split_at_mut(LANES);

@@ -31,7 +31,8 @@ pub(crate) fn list_places(start: Option<u64>, live: usize, origins: &mut [u64])
     }
 }
 
-/// Numbers that go up by a step, lane by lane.
+/// Numbers that go up by a step, lane by lane. In a function of its own the constants of the loop stay in registers.
+#[inline(never)]
 pub(crate) fn list_numbers(first: i64, by: i64, count: usize, values: &mut [i64])
     requires { count ≤ length values.old }
     ensures { (k : ℕ) → k < count → at values.new k ≡ going_up first by k }

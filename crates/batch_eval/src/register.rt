@@ -13,6 +13,7 @@ ghost use Rattle.lambda_values.specs.Term.{long_of, truth_of};
 ghost use Rattle.lambda_values.specs.Value.{long_value, truth_value};
 ghost use Rattle.std.specs.Prelude.{◌≡◌, ◌≤◌, Ok, length};
 
+use crate::cheap::are_cheap;
 use crate::choice::{Either, eval_chosen};
 use crate::constant::number_in;
 use crate::dispatch::{by_infix, has_shorter_way};
@@ -47,6 +48,19 @@ pub(crate) struct Inputs<'a, 'r> {
     pub(crate) xs: &'a [i64],
     pub(crate) live: usize,
     pub(crate) rows: Rows<'r>,
+}
+
+/// What a condition chooses from, with the answer whether both are cheap.
+macro_rules! either {
+    ($chosen:expr, $other:expr) => {{
+        let chosen = $chosen;
+        let other = $other;
+        Either {
+            chosen,
+            other,
+            are_cheap: are_cheap(chosen, other),
+        }
+    }};
 }
 
 /// Puts the values of an expression into a register, up to its first fault. It takes no memory.
@@ -85,10 +99,7 @@ pub(crate) fn eval_long(
             eval_between(Infix::Compute(*operator), pair, inputs, out, room)
         }
         LongExpr::Choose(choice) => {
-            let either = Either {
-                chosen: Operand::Long(&choice.chosen),
-                other: Operand::Long(&choice.other),
-            };
+            let either = either!(Operand::Long(&choice.chosen), Operand::Long(&choice.other));
             eval_chosen(&choice.condition, either, inputs, out, room)
         }
     }
@@ -147,24 +158,15 @@ fn eval_truth(test: &BoolExpr, inputs: Inputs<'_, '_>, out: &mut [i64], room: &m
             run::<Equal, Own, Number>(Own, Number(0), first.live, out).after(first)
         }
         BoolExpr::Connect(Connective::And, pair) => {
-            let either = Either {
-                chosen: Operand::Bool(&pair.right),
-                other: Operand::Flag(false),
-            };
+            let either = either!(Operand::Bool(&pair.right), Operand::Flag(false));
             eval_chosen(&pair.left, either, inputs, out, room)
         }
         BoolExpr::Connect(Connective::Or, pair) => {
-            let either = Either {
-                chosen: Operand::Flag(true),
-                other: Operand::Bool(&pair.right),
-            };
+            let either = either!(Operand::Flag(true), Operand::Bool(&pair.right));
             eval_chosen(&pair.left, either, inputs, out, room)
         }
         BoolExpr::Choose(choice) => {
-            let either = Either {
-                chosen: Operand::Bool(&choice.chosen),
-                other: Operand::Bool(&choice.other),
-            };
+            let either = either!(Operand::Bool(&choice.chosen), Operand::Bool(&choice.other));
             eval_chosen(&choice.condition, either, inputs, out, room)
         }
     }

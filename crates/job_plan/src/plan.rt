@@ -74,8 +74,8 @@ impl<'c> Plan<'c> {
     /// leg goes over, and a run cuts what they leave. A `reduce` that keeps the first value becomes `findFirst`, which
     /// ends there, if its leg has no other slices, and only maps and filters that can't have a fault. Before `limit(0)`
     /// nothing is walked. Stages that may have a fault keep their numbers. If the first leg of a job has one other
-    /// slice, a search for the place where it cuts may come before it, so that all workers share it. A `takeWhile` has
-    /// one only if there are more workers than jobs, since they walk the positions before its end twice.
+    /// slice, and there are more workers than jobs, a search for the place where it cuts may come before it, so that
+    /// all workers share it.
     ///
     /// The jobs are moved; after a refused allocation they are dropped. Takes time and memory for each stage, and each
     /// name in a job is compared with the names of the jobs before.
@@ -86,10 +86,10 @@ impl<'c> Plan<'c> {
             planned_meaning (plans_in plan.jobs.items) ≡ meaning_of (jobs_of jobs.entry.items)) }
         ensures names { IfOk result (λ plan. plan_names plan.jobs.items ≡ names_of (jobs_of jobs.entry.items)) }
     {
-        let twice = (jobs.len() as u64) < workers;
+        let to_spare = (jobs.len() as u64) < workers;
         let mut plans = Vec::new(alloc);
         for job in jobs {
-            let plan = JobPlan::of(alloc, job, &plans, twice)?;
+            let plan = JobPlan::of(alloc, job, &plans, to_spare)?;
             plans.push(plan)?;
         }
         let lent = lent_arrays(alloc, &plans)?;
@@ -105,7 +105,7 @@ impl<'c> JobPlan<'c> {
         alloc: Global,
         job: Job<'c>,
         before: &[JobPlan<'c>],
-        twice: bool,
+        to_spare: bool,
     ) -> Result<JobPlan<'c>, NoMemory>
         ensures ok { IfOk result (λ plan. IsRoute (plan_names before.now) (plan_in plan) (job_of job.entry)) }
     {
@@ -123,7 +123,7 @@ impl<'c> JobPlan<'c> {
             search,
             scans,
             last,
-        } = route_of(alloc, stages, terminal, !has_array(&sources), twice)?;
+        } = route_of(alloc, stages, terminal, !has_array(&sources), to_spare)?;
         let first = scans.first().unwrap_or(&last);
         let likely_size = likely_size(&sources, first.window, before);
         let stages = &first.last.stages.list;

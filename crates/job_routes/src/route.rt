@@ -33,8 +33,8 @@ pub struct Route {
     pub last: Leg,
 }
 
-/// The legs, with a search before the first one, if one gains there. With `twice` positions may be walked twice.
-fn with_search(alloc: Global, scans: Vec<Leg>, last: Leg, twice: bool) -> Result<Route, NoMemory>
+/// The legs, with a search before the first one, if one gains there.
+fn with_search(alloc: Global, scans: Vec<Leg>, last: Leg) -> Result<Route, NoMemory>
     ensures { IfOk result (λ route. (env : Numbers) (ss : List AbstractPlainSource)
         → legs_answer (legs_of_route route) env (source_walk ss)
         ≡ legs_answer (record { search = None; scans = legs_in scans.items; last = leg_in last }) env
@@ -43,8 +43,8 @@ fn with_search(alloc: Global, scans: Vec<Leg>, last: Leg, twice: bool) -> Result
     let mut scans = scans;
     let mut last = last;
     let found = match scans.first_mut() {
-        Some(first) => search_for(alloc, first, twice)?,
-        None => search_for(alloc, &mut last, twice)?,
+        Some(first) => search_for(alloc, first)?,
+        None => search_for(alloc, &mut last)?,
     };
     match found {
         Some((search, side)) => {
@@ -63,14 +63,14 @@ fn with_search(alloc: Global, scans: Vec<Leg>, last: Leg, twice: bool) -> Result
     }
 }
 
-/// The legs of a job of these stages and this terminal. A search is over the job's `own` sources. With `twice` one that
-/// looks for the end of a `takeWhile` walks positions that the leg after it walks again.
+/// The legs of a job of these stages and this terminal. A search is over the job's `own` sources. It takes more
+/// processor time than a slice in the middle of a walk, so there is none unless workers are `to_spare`.
 pub fn route_of(
     alloc: Global,
     stages: Vec<JobStage>,
     terminal: Terminal,
     own: bool,
-    twice: bool,
+    to_spare: bool,
 ) -> Result<Route, NoMemory>
     requires few { length stages.items ≤ 32 }
     ensures answer { IfOk result (λ route. (env : Numbers) (ss : List AbstractPlainSource)
@@ -80,8 +80,8 @@ pub fn route_of(
     ensures own { IfOk result (λ route. own ≡ false → is_some route.search ≡ false) }
 {
     let (scans, last) = legs_of(alloc, stages, terminal)?;
-    if own {
-        return with_search(alloc, scans, last, twice);
+    if own && to_spare {
+        return with_search(alloc, scans, last);
     }
     Ok(Route {
         search: None,

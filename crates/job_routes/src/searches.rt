@@ -33,22 +33,20 @@ use std::alloc::Global;
 use std::mem;
 use trace::{NoMemory, Stage};
 
-/// Whether a search gains. A `takeWhile` asks for the positions before its end once more, and nothing behind it may end
-/// the walk earlier.
-fn gains(slice: &Slice, later: &Segment, twice: bool) -> bool
+/// Whether a search gains where workers share it. Since the positions before the end of a `takeWhile` are walked again,
+/// nothing behind it may end the walk earlier.
+fn gains(slice: &Slice, later: &Segment) -> bool
     ensures { result ≡ true → (k : ℕ) → slice_of slice.now ≢ limit k }
 {
     match slice {
         Slice::Limit(_) => false,
         Slice::Skip(_) | Slice::DropWhile(_) => true,
-        Slice::TakeWhile(_) => {
-            twice && later.end.takes_all() && are_faultless(&later.stages.list)
-        }
+        Slice::TakeWhile(_) => later.end.takes_all() && are_faultless(&later.stages.list),
     }
 }
 
 /// Whether the walk of a leg goes through one slice, for which a search gains.
-fn has_one_slice(leg: &Leg, twice: bool) -> bool
+fn has_one_slice(leg: &Leg) -> bool
     ensures { result ≡ true → HasOneSlice leg.now }
 {
     let Some((link, later)) = leg.links.split_first() else {
@@ -61,7 +59,7 @@ fn has_one_slice(leg: &Leg, twice: bool) -> bool
     if number >= 32 || leg.last.stages.first != number + 1 {
         return false;
     }
-    gains(&link.slice, &leg.last, twice)
+    gains(&link.slice, &leg.last)
 }
 
 /// The leg that looks for the first item at which a test isn't true.
@@ -221,17 +219,13 @@ fn search_of(
 }
 
 /// The search that takes the place of the slice of this leg, if it gains by one.
-pub(crate) fn search_for(
-    alloc: Global,
-    leg: &mut Leg,
-    twice: bool,
-) -> Result<Option<(Leg, PlaceSide)>, NoMemory>
+pub(crate) fn search_for(alloc: Global, leg: &mut Leg) -> Result<Option<(Leg, PlaceSide)>, NoMemory>
     ensures some { IfOk result (λ found. IfSome found (λ f. (env : Numbers) (ss : List AbstractPlainSource)
         → leg_outcome (leg_in leg.new) env (searched f.1 (leg_in f.0) env (source_walk ss))
         ≡ leg_outcome (leg_in leg.old) env (source_walk ss))) }
     ensures none { IfOk result (λ found. IfNone found (leg.new ≡ leg.old)) }
 {
-    if !has_one_slice(leg, twice) {
+    if !has_one_slice(leg) {
         return Ok(None);
     }
     let Some(copy) = leg.links[0].stages.copy(alloc)? else {
