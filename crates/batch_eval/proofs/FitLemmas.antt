@@ -15,7 +15,7 @@ pub product_fits : (x y : ℤ) → negsuc 2147483647 ≤ℤ x → x ≤ℤ pos 2
 product_fits x y least most first last =
     fits_signed_mul w64 x y (2 ^ 31) (2 ^ 31) (small x least most) (small y first last) (omega arith)
 
--- what subtraction of the bits of the least number leaves of a number's
+-- how far a number lies above the least one: the difference of their bits modulo 2^64
 abbrev bits_between : ℤ → ℤ → ℕ
 bits_between least x = (cast_unsigned w64 x + (2 ^ 64 - cast_unsigned w64 least)) % 2 ^ 64
 

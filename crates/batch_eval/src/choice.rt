@@ -82,6 +82,9 @@ fn eval_tested(
         (at_each inputs.entry (operand_value either.entry.other) k)
         ≡ Ok (at out.new k) }
 {
+    if !either.are_cheap {
+        return false;
+    }
     let Some(test) = lane_test(condition, inputs) else {
         return false;
     };

@@ -9,7 +9,7 @@ ghost use Rattle.batch_eval.specs.Choices.{at_each, between, operand_value};
 ghost use Rattle.tables.specs.Table.{cells_named};
 ghost use Rattle.lambda_values.specs.Earlier.{cell_at};
 ghost use Rattle.lambda_values.specs.Operators.{on};
-ghost use Rattle.lambda_values.specs.Term.{long_of, truth_of};
+ghost use Rattle.lambda_values.specs.Term.{compare, connect as abstract_connect, long_of, truth_of};
 ghost use Rattle.lambda_values.specs.Value.{long_value, truth_value};
 ghost use Rattle.std.specs.Prelude.{◌≡◌, ◌≤◌, Ok, length};
 
@@ -18,7 +18,7 @@ use crate::choice::{Either, eval_chosen};
 use crate::constant::number_in;
 use crate::dispatch::{by_infix, has_shorter_way};
 use crate::flag::flag;
-use crate::in_place::{connected_lanes, numbers_in_place};
+use crate::in_place::{lane_test, numbers_in_place};
 use crate::kernel::{Equal, First, Infix};
 use crate::lanes::{Number, Own, Register};
 use crate::loops::run;
@@ -26,8 +26,8 @@ use crate::number_test::NumberTest;
 use crate::operands::{Beside, Branch, Held, Step, connect, fill, flag_held};
 use crate::reached::{Reached, all};
 use crate::rows::{Rows, cells_in_place, gather_cells, number_rows};
-use crate::step::{comparison_of, last_step, masked_with, no_step};
-use lambda_values::{BoolExpr, Connective, Env, LongExpr, LongPair};
+use crate::step::{comparison_of, last_step, no_step, with_number};
+use lambda_values::{BoolExpr, BoolPair, Comparison, Connective, Env, LongExpr, LongPair};
 
 /// The most lanes of a batch, and the length of a register.
 pub(crate) const LANES: usize = 1024;
@@ -105,9 +105,9 @@ pub(crate) fn eval_long(
     }
 }
 
-/// Puts the booleans of a test into a register as flags, up to its first fault. Where its last part compares numbers as
-/// they lie with a number, it takes no loop but the one that connects both parts.
+/// Puts the booleans of a test into a register as flags, up to its first fault.
 #[cycle(register)]
+#[tactic(auto, using(crate::proofs::FlagLemmas::flagged_opposite, crate::proofs::FlagLemmas::flagged_chosen))]
 pub(crate) fn eval_bool(
     test: &BoolExpr,
     inputs: Inputs<'_, '_>,
@@ -122,52 +122,99 @@ pub(crate) fn eval_bool(
     ensures { Reaches (at_each inputs.entry (λ x env. flagged (truth_value (truth_of test.now) x env)))
         (at out.new) inputs.entry.live result }
 {
-    if let Some((left, set)) = masked_with(test, inputs.env) {
-        return eval_flags(left, set, inputs, out, room);
-    }
-    if let Some(connected) = connected_lanes(test, inputs) {
-        let (_, rest) = room.split_at_mut(LANES);
-        let first = eval_bool(connected.left, inputs, out, rest);
-        return connect(connected.connective, connected.right, first.live, out).after(first);
-    }
-    eval_truth(test, inputs, out, room)
-}
-
-/// Puts the booleans of a test into a register as flags, up to its first fault, part by part.
-#[cycle(register)]
-#[tactic(auto, using(crate::proofs::FlagLemmas::flagged_between, crate::proofs::FlagLemmas::flagged_opposite, crate::proofs::FlagLemmas::flagged_chosen))]
-fn eval_truth(test: &BoolExpr, inputs: Inputs<'_, '_>, out: &mut [i64], room: &mut [i64]) -> Reached
-    requires lanes { inputs.live ≤ 1024 }
-    requires xs { inputs.live ≤ length inputs.xs.now }
-    requires rows { HasRows inputs.rows inputs.live }
-    requires out { inputs.live ≤ length out.old }
-    requires room { FitsTest (truth_of test.now) (length room.old) }
-    ensures { Reaches (at_each inputs.entry (λ x env. flagged (truth_value (truth_of test.now) x env)))
-        (at out.new) inputs.entry.live result }
-{
     match test {
         BoolExpr::Literal(value) => fill(flag(*value), inputs.live, out),
         BoolExpr::Compare(comparison, pair) => {
-            eval_between(Infix::Compare(*comparison), pair, inputs, out, room)
+            eval_compared(*comparison, pair, inputs, out, room)
         }
         BoolExpr::Not(operand) => {
             if let Some((comparison, pair)) = comparison_of(test) {
-                return eval_between(Infix::Compare(comparison), pair, inputs, out, room);
+                return eval_compared(comparison, pair, inputs, out, room);
             }
             let first = eval_bool(operand, inputs, out, room);
             run::<Equal, Own, Number>(Own, Number(0), first.live, out).after(first)
         }
-        BoolExpr::Connect(Connective::And, pair) => {
-            let either = either!(Operand::Bool(&pair.right), Operand::Flag(false));
-            eval_chosen(&pair.left, either, inputs, out, room)
-        }
-        BoolExpr::Connect(Connective::Or, pair) => {
-            let either = either!(Operand::Flag(true), Operand::Bool(&pair.right));
-            eval_chosen(&pair.left, either, inputs, out, room)
+        BoolExpr::Connect(connective, pair) => {
+            eval_connected(*connective, pair, inputs, out, room)
         }
         BoolExpr::Choose(choice) => {
             let either = either!(Operand::Bool(&choice.chosen), Operand::Bool(&choice.other));
             eval_chosen(&choice.condition, either, inputs, out, room)
+        }
+    }
+}
+
+/// Puts the booleans of a comparison into a register as flags, up to its first fault. A comparison with a number that
+/// doesn't see all of what it compares takes no loop but the one that writes flags.
+#[cycle(register)]
+#[tactic(auto, using(crate::proofs::FlagLemmas::flagged_between))]
+fn eval_compared(
+    comparison: Comparison,
+    pair: &LongPair,
+    inputs: Inputs<'_, '_>,
+    out: &mut [i64],
+    room: &mut [i64],
+) -> Reached
+    requires lanes { inputs.live ≤ 1024 }
+    requires xs { inputs.live ≤ length inputs.xs.now }
+    requires rows { HasRows inputs.rows inputs.live }
+    requires out { inputs.live ≤ length out.old }
+    requires room { FitsBoth (long_of pair.now.left) (long_of pair.now.right) (length room.old) }
+    ensures { Reaches (at_each inputs.entry (λ x env. flagged (truth_value
+        (compare comparison (long_of pair.now.left) (long_of pair.now.right)) x env)))
+        (at out.new) inputs.entry.live result }
+{
+    match with_number(comparison, pair, inputs.env) {
+        Some((left, set)) if !set.sees_all() => eval_flags(left, set, inputs, out, room),
+        _ => eval_between(Infix::Compare(comparison), pair, inputs, out, room),
+    }
+}
+
+/// Puts the booleans of two connected tests into a register as flags, up to the first fault. Where the right one
+/// compares numbers as they lie with a number, it takes no loop but the one that connects both.
+#[cycle(register)]
+#[tactic(auto, using(crate::proofs::FlagLemmas::flagged_chosen))]
+fn eval_connected(
+    connective: Connective,
+    pair: &BoolPair,
+    inputs: Inputs<'_, '_>,
+    out: &mut [i64],
+    room: &mut [i64],
+) -> Reached
+    requires lanes { inputs.live ≤ 1024 }
+    requires xs { inputs.live ≤ length inputs.xs.now }
+    requires rows { HasRows inputs.rows inputs.live }
+    requires out { inputs.live ≤ length out.old }
+    requires room { FitsTest (abstract_connect connective (truth_of pair.now.left) (truth_of pair.now.right))
+        (length room.old) }
+    ensures { Reaches (at_each inputs.entry (λ x env. flagged (truth_value
+        (abstract_connect connective (truth_of pair.now.left) (truth_of pair.now.right)) x env)))
+        (at out.new) inputs.entry.live result }
+{
+    if let Some(right) = lane_test(&pair.right, inputs) {
+        let (_, rest) = room.split_at_mut(LANES);
+        let first = eval_bool(&pair.left, inputs, out, rest);
+        return connect(connective, right, first.live, out).after(first);
+    }
+    let right = Operand::Bool(&pair.right);
+    match connective {
+        Connective::And => {
+            eval_chosen(
+                &pair.left,
+                either!(right, Operand::Flag(false)),
+                inputs,
+                out,
+                room,
+            )
+        }
+        Connective::Or => {
+            eval_chosen(
+                &pair.left,
+                either!(Operand::Flag(true), right),
+                inputs,
+                out,
+                room,
+            )
         }
     }
 }

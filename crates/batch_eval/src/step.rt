@@ -77,16 +77,33 @@ fn step_of(operator: BinaryOperator, number: i64) -> Option<Step>
     }
 }
 
-/// A test as a comparison of an expression with a number. Its last operator is what the comparison sees, if it is an
-/// `&` with a number, or a `%` by a power of two that is compared with 0; the expression is without it.
+/// A test as a comparison of an expression with a number, if it is one of two expressions and the right one is a number.
+/// The expression is without what the comparison doesn't see.
 pub(crate) fn compared_with<'a>(test: &'a BoolExpr, env: &Env) -> Option<(&'a LongExpr, NumberTest)>
     ensures value { IfSome result (λ parts. (x : Item) → truth_value (truth_of test.now) x env.now
         ≡ on (long_value (long_of parts.0.now) x env.now) (λ v. Ok (holds parts.1 v))) }
     ensures room { IfSome result (λ parts. (room : ℕ) → FitsTest (truth_of test.now) room
         → Fits (long_of parts.0.now) room) }
-    ensures size { IfSome result (λ parts. size parts.0.now < size-BoolExpr test.now) }
 {
     let (comparison, pair) = comparison_of(test)?;
+    with_number(comparison, pair, env)
+}
+
+/// A comparison of two expressions as one with a number, if the right one is a number. The last operator of the left one
+/// is what the comparison sees, if it is an `&` with a number, or a `%` by a power of two that is compared with 0; the
+/// expression is without it.
+pub(crate) fn with_number<'a>(
+    comparison: Comparison,
+    pair: &'a LongPair,
+    env: &Env,
+) -> Option<(&'a LongExpr, NumberTest)>
+    ensures value { IfSome result (λ parts. (x : Item)
+        → truth_value (compare comparison (long_of pair.now.left) (long_of pair.now.right)) x env.now
+        ≡ on (long_value (long_of parts.0.now) x env.now) (λ v. Ok (holds parts.1 v))) }
+    ensures room { IfSome result (λ parts. (room : ℕ) → Fits (long_of pair.now.left) room
+        → Fits (long_of parts.0.now) room) }
+    ensures size { IfSome result (λ parts. size parts.0.now ≤ size pair.now.left) }
+{
     let number = number_in(&pair.right, env)?;
     let (of, seen) = seen_by(comparison, &pair.left, number, env);
     Some((of, NumberTest::new(seen, comparison, number)?))
@@ -123,21 +140,6 @@ fn opposite_of(comparison: Comparison) -> Comparison
         Comparison::Greater => Comparison::LessOrEqual,
         Comparison::GreaterOrEqual => Comparison::Less,
     }
-}
-
-/// A test as a comparison of what it sees of an expression with a number, if it doesn't see all.
-pub(crate) fn masked_with<'a>(test: &'a BoolExpr, env: &Env) -> Option<(&'a LongExpr, NumberTest)>
-    ensures value { IfSome result (λ parts. (x : Item) → truth_value (truth_of test.now) x env.now
-        ≡ on (long_value (long_of parts.0.now) x env.now) (λ v. Ok (holds parts.1 v))) }
-    ensures room { IfSome result (λ parts. (room : ℕ) → FitsTest (truth_of test.now) room
-        → Fits (long_of parts.0.now) room) }
-    ensures size { IfSome result (λ parts. size parts.0.now < size-BoolExpr test.now) }
-{
-    let compared = compared_with(test, env)?;
-    if compared.1.sees_all() {
-        return None;
-    }
-    Some(compared)
 }
 
 /// What a comparison with a number sees of an expression, and this without what is seen.
@@ -196,9 +198,11 @@ fn unmasked<'a>(expr: &'a LongExpr, env: &Env) -> (&'a LongExpr, Seen)
     ensures room { (room : ℕ) → Fits (long_of expr.now) room → Fits (long_of result.0.now) room }
     ensures size { size result.0.now ≤ size expr.now }
 {
-    let last = last_step(expr, env);
-    match last.step {
-        Step::And(mask) => (last.of, Seen::Masked(mask)),
-        _ => (expr, Seen::All),
+    let LongExpr::Binary(BinaryOperator::And, pair) = expr else {
+        return (expr, Seen::All);
+    };
+    match number_in(&pair.right, env) {
+        Some(mask) => (&pair.left, Seen::Masked(mask)),
+        None => (expr, Seen::All),
     }
 }

@@ -1,9 +1,9 @@
 //! A search for the place at which a slice cuts, so that all workers walk the leg after it.
 //!
-//! A slice that doesn't select positions makes a leg one piece. If it is the only one of a job's first leg, and maps
-//! and filters come before it, another leg looks for the place of the first item at which the test of a `takeWhile` or
-//! a `dropWhile` isn't true, or of the first one after a `skip`. The leg itself then goes over the positions before
-//! that place, or over those from it on.
+//! A slice that doesn't select positions makes a leg one piece. If it is the only one of a job's first leg, maps and
+//! filters come before it, and there are more workers than jobs, another leg looks for the place of the first item at
+//! which the test of a `takeWhile` or a `dropWhile` isn't true, or of the first one after a `skip`. The leg itself then
+//! goes over the positions before that place, or over those from it on.
 
 ghost use Rattle.std.specs.Prelude.{◌≡◌, ◌≢◌, ◌≤◌, ℕ, suc, [], List, IfNone, IfOk, IfSome, OnOk, true};
 ghost use Rattle.lambda_values.specs.Earlier.{Numbers};

@@ -3,7 +3,7 @@ use Rattle.std.proofs.Common.{eqb-true, rules, arith}
 use Rattle.std.specs.Int.{w64, cast_unsigned}
 use Rattle.lambda_values.specs.declared.fault.FaultKind.{FaultKind}
 use Rattle.lambda_values.specs.Term.{Truth, truth_of}
-use Rattle.lambda_values.specs.Value.{chosen, truth_value}
+use Rattle.lambda_values.specs.Value.{chosen, connected, truth_value}
 use Rattle.batch_eval.specs.declared.operands.Step.{Step}
 use Rattle.batch_eval.specs.declared.register.Operand.{Operand}
 use Rattle.batch_eval.specs.Batches.{holds, wanted}
@@ -12,6 +12,7 @@ use Rattle.batch_eval.specs.Choices.{chosen_value, connected_flag, lane_item, la
 use Rattle.batch_eval.specs.Lanes.{after, at, branch_at, flagged, step_value}
 use Rattle.batch_eval.specs.Rooms.{FitsChosen, FitsOperand, FitsParted}
 use Rattle.batch_eval.specs.Rows.{row_at}
+use Rattle.batch_eval.proofs.FlagLemmas.{flagged_connected}
 use Rattle.batch_eval.proofs.ChoiceLemmas.{chosen_ones, chosen_everywhere, chosen_reaches, parted_reaches}
 use Rattle.batch_eval.proofs.RowLemmas.{fewer_rows}
 use Rattle.batch_eval.proofs.Steps.{Reaches_on, Reaches_same}
@@ -231,19 +232,21 @@ register::eval_between-eval_long-second-requires t c =
       ),
     )
 
-pub register::eval_bool-returns-in-Some-connected_lanes : goal.register::eval_bool-returns-in-Some-connected_lanes
-register::eval_bool-returns-in-Some-connected_lanes m c =
+pub register::eval_connected-returns-in-Some : goal.register::eval_connected-returns-in-Some
+register::eval_connected-returns-in-Some m c =
     let env = c.args.inputs.env.now in
-    let parts = c.in-Some-connected_lanes.connected in
-    let whole : ℕ → Result ℤ FaultKind =
-    λ k. flagged (truth_value (truth_of c.args.test.now) (lane_item c.args.inputs k) env) in
-    let left : ℕ → Result ℤ FaultKind =
-    λ k. flagged (truth_value (truth_of parts.left.now) (lane_item c.args.inputs k) env) in
-    let next : ℕ → ℤ → Result ℤ FaultKind = λ k z. Ok (connected_flag parts.connective z (lane_passes parts.right k)) in
-    rw c.after.ensures (Reaches_same (λ k. on (left k) (next k)) whole (at c.connect.new.out) c.args.inputs.live
-    (after c.connect.result c.eval_bool-first.result)
-    (λ k below. sym (c.in-Some-connected_lanes.ensures.value k below))
-    (Reaches_on left next (at c.eval_bool-first.new.out) (at c.connect.new.out) c.args.inputs.live
+    let connective = c.args.connective in
+    let pair = c.args.pair.now in
+    let found = c.in-Some.right in
+    let one : ℕ → Result Bool FaultKind = λ k. truth_value (truth_of pair.left) (lane_item c.args.inputs k) env in
+    let other : ℕ → Result Bool FaultKind = λ k. truth_value (truth_of pair.right) (lane_item c.args.inputs k) env in
+    let whole : ℕ → Result ℤ FaultKind = λ k. flagged (on (one k) (λ p. connected connective p (other k))) in
+    let next : ℕ → ℤ → Result ℤ FaultKind = λ k z. Ok (connected_flag connective z (lane_passes found k)) in
+    rw c.after.ensures (Reaches_same (λ k. on (flagged (one k)) (next k)) whole (at c.connect.new.out)
+    c.args.inputs.live (after c.connect.result c.eval_bool-first.result)
+    (λ k below. sym (flagged_connected connective (one k) (other k) (lane_passes found k)
+    (c.in-Some.ensures.passes k below)))
+    (Reaches_on (λ k. flagged (one k)) next (at c.eval_bool-first.new.out) (at c.connect.new.out) c.args.inputs.live
     c.eval_bool-first.result c.connect.result c.eval_bool-first.ensures c.connect.ensures))
 
 pub choice::eval_tested-returns : goal.choice::eval_tested-returns

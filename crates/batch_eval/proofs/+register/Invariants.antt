@@ -15,11 +15,8 @@ size (operand.Flag b) = 0
 abbrev pub decreases-register::eval_long : goal.decreases-register::eval_long
 decreases-register::eval_long l = 8 * size-LongExpr l.expr.now
 
-abbrev pub decreases-register::eval_truth : goal.decreases-register::eval_truth
-decreases-register::eval_truth l = 8 * size-BoolExpr l.test.now
-
 abbrev pub decreases-register::eval_bool : goal.decreases-register::eval_bool
-decreases-register::eval_bool l = 8 * size-BoolExpr l.test.now + 1
+decreases-register::eval_bool l = 8 * size-BoolExpr l.test.now
 
 abbrev pub decreases-register::eval_held : goal.decreases-register::eval_held
 decreases-register::eval_held l = 8 * size-LongExpr l.expr.now + 1
@@ -38,6 +35,12 @@ decreases-register::eval_branch l = 8 * size l.operand + 2
 
 abbrev pub decreases-register::eval_between : goal.decreases-register::eval_between
 decreases-register::eval_between l = 8 * max (size-LongExpr l.pair.now.left) (size-LongExpr l.pair.now.right) + 4
+
+abbrev pub decreases-register::eval_compared : goal.decreases-register::eval_compared
+decreases-register::eval_compared l = 8 * max (size-LongExpr l.pair.now.left) (size-LongExpr l.pair.now.right) + 5
+
+abbrev pub decreases-register::eval_connected : goal.decreases-register::eval_connected
+decreases-register::eval_connected l = 8 * max (size-BoolExpr l.pair.now.left) (size-BoolExpr l.pair.now.right) + 6
 
 abbrev pub decreases-choice::eval_chosen : goal.decreases-choice::eval_chosen
 decreases-choice::eval_chosen l = 8 * max (size-BoolExpr l.condition.now)
