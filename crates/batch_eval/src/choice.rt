@@ -9,6 +9,7 @@ ghost use Rattle.lambda_values.specs.Value.{chosen, truth_value};
 ghost use Rattle.batch_eval.specs.Batches.{holds};
 ghost use Rattle.std.specs.Prelude.{◌≡◌, ◌<◌, ◌≤◌, ℕ, IsTrue, Ok, length};
 
+use crate::cheap::are_cheap;
 use crate::choose::{Side, all_flags, gather, merge};
 use crate::in_place::lane_test;
 use crate::number_test::NumberTest;
@@ -25,6 +26,20 @@ pub(crate) struct Either<'a> {
     pub(crate) other: Operand<'a>,
     /// Whether both cost little and can't fault.
     pub(crate) are_cheap: bool,
+}
+
+impl<'a> Either<'a> {
+    /// These two operands.
+    pub(crate) fn of(chosen: Operand<'a>, other: Operand<'a>) -> Either<'a>
+        ensures chosen { result.chosen ≡ chosen.entry }
+        ensures other { result.other ≡ other.entry }
+    {
+        Either {
+            chosen,
+            other,
+            are_cheap: are_cheap(chosen, other),
+        }
+    }
 }
 
 /// Puts what a condition chooses into a register, up to its first fault. Where both operands are cheap and have no

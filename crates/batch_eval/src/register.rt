@@ -13,7 +13,6 @@ ghost use Rattle.lambda_values.specs.Term.{compare, connect as abstract_connect,
 ghost use Rattle.lambda_values.specs.Value.{long_value, truth_value};
 ghost use Rattle.std.specs.Prelude.{◌≡◌, ◌≤◌, Ok, length};
 
-use crate::cheap::are_cheap;
 use crate::choice::{Either, eval_chosen};
 use crate::constant::number_in;
 use crate::dispatch::{by_infix, has_shorter_way};
@@ -48,19 +47,6 @@ pub(crate) struct Inputs<'a, 'r> {
     pub(crate) xs: &'a [i64],
     pub(crate) live: usize,
     pub(crate) rows: Rows<'r>,
-}
-
-/// What a condition chooses from, with the answer whether both are cheap.
-macro_rules! either {
-    ($chosen:expr, $other:expr) => {{
-        let chosen = $chosen;
-        let other = $other;
-        Either {
-            chosen,
-            other,
-            are_cheap: are_cheap(chosen, other),
-        }
-    }};
 }
 
 /// Puts the values of an expression into a register, up to its first fault. It takes no memory.
@@ -99,7 +85,7 @@ pub(crate) fn eval_long(
             eval_between(Infix::Compute(*operator), pair, inputs, out, room)
         }
         LongExpr::Choose(choice) => {
-            let either = either!(Operand::Long(&choice.chosen), Operand::Long(&choice.other));
+            let either = Either::of(Operand::Long(&choice.chosen), Operand::Long(&choice.other));
             eval_chosen(&choice.condition, either, inputs, out, room)
         }
     }
@@ -138,7 +124,7 @@ pub(crate) fn eval_bool(
             eval_connected(*connective, pair, inputs, out, room)
         }
         BoolExpr::Choose(choice) => {
-            let either = either!(Operand::Bool(&choice.chosen), Operand::Bool(&choice.other));
+            let either = Either::of(Operand::Bool(&choice.chosen), Operand::Bool(&choice.other));
             eval_chosen(&choice.condition, either, inputs, out, room)
         }
     }
@@ -201,7 +187,7 @@ fn eval_connected(
         Connective::And => {
             eval_chosen(
                 &pair.left,
-                either!(right, Operand::Flag(false)),
+                Either::of(right, Operand::Flag(false)),
                 inputs,
                 out,
                 room,
@@ -210,7 +196,7 @@ fn eval_connected(
         Connective::Or => {
             eval_chosen(
                 &pair.left,
-                either!(Operand::Flag(true), right),
+                Either::of(Operand::Flag(true), right),
                 inputs,
                 out,
                 room,
