@@ -77,8 +77,8 @@ fn step_of(operator: BinaryOperator, number: i64) -> Option<Step>
     }
 }
 
-/// A test as a comparison of an expression with a number, if it is one of two expressions and the right one is a number.
-/// The expression is without what the comparison doesn't see.
+/// A test as a comparison of an expression with a number, if it compares two expressions and the right one is a
+/// number. The expression is without what the comparison doesn't see.
 pub(crate) fn compared_with<'a>(test: &'a BoolExpr, env: &Env) -> Option<(&'a LongExpr, NumberTest)>
     ensures value { IfSome result (λ parts. (x : Item) → truth_value (truth_of test.now) x env.now
         ≡ on (long_value (long_of parts.0.now) x env.now) (λ v. Ok (holds parts.1 v))) }
@@ -89,9 +89,9 @@ pub(crate) fn compared_with<'a>(test: &'a BoolExpr, env: &Env) -> Option<(&'a Lo
     with_number(comparison, pair, env)
 }
 
-/// A comparison of two expressions as one with a number, if the right one is a number. The last operator of the left one
-/// is what the comparison sees, if it is an `&` with a number, or a `%` by a power of two that is compared with 0; the
-/// expression is without it.
+/// A comparison of two expressions as one with a number, if the right one is a number. The last operator of the left
+/// one is what the comparison sees, if it is an `&` with a number, or a `%` by a power of two that is compared with 0;
+/// the expression is without it.
 pub(crate) fn with_number<'a>(
     comparison: Comparison,
     pair: &'a LongPair,

@@ -287,6 +287,21 @@ climb_ran Ran (Some p) (Some a) at root top ran h = subst Ran (root p refl) h
 pub at_some : {A : Type 0} (P : A → Type 0) (o : Option A) → IfSome o P → (a : A) → o ≡ Some a → P a
 at_some P o h a e = subst (λ z. IfSome z P) e h
 
+-- what is known of the top of a tree doesn't rest on what a node below it keeps
+pub knows_top : {T : Type 0} (at : Option (Place T)) (a b : List ℕ) (p : Place T) (v w : View T) → (at ≡ None → a ≡ b)
+    → KnowsTop at a p v w → KnowsTop at b p v w
+knows_top None a b p v w same known = subst (λ l. KnowsTop None l p v w) (same refl) known
+knows_top (Some q) a b p v w same known = record {
+  root = known.root;
+  inner = known.inner;
+  above = known.above;
+  noted = known.noted;
+  noted_sides = known.noted_sides;
+  only_own = known.only_own;
+  still_noted = known.still_noted;
+  still_noted_sides = known.still_noted_sides;
+}
+
 -- the node was armed with the place at which the tree is forked
 pub paired_as : {T : Type 0} (at : Option (Place T)) (goes : Option (T × Bool)) (node : ℕ) (above : ℕ × ℕ)
     → (above.0 ≡ parent_of at) × (above.1 ≡ root_of at node) → (at ≡ None → goes ≡ None)

@@ -1,7 +1,5 @@
 //! Trees over counts, and the forks that give them nodes.
-ghost use Rattle.std.specs.Prelude.{◌≡◌, ◌+◌, ◌-◌, ◌/◌, ◌<◌, ◌≤◌, ◌⊎◌, ℕ, Some, None, IfSome, true, false, ◌∷◌, []};
-ghost use Rattle.completion_core.specs.Legal.{count};
-ghost use Rattle.pending_count.specs.Views.{left_slot, right_slot};
+ghost use Rattle.std.specs.Prelude.{◌≡◌, ◌/◌, ◌⊎◌, Some, None, IfSome, true, false};
 ghost use Rattle.pending_count.specs.Seats.{view_of, IsSeatOf};
 ghost use Rattle.completer_tree.specs.Places.{place_at, place_by};
 ghost use Rattle.completer_tree.specs.Roots.{Rooted, KnowsTop, parent_of, root_of};
@@ -11,7 +9,7 @@ ghost use Rattle.completer_tree.specs.Forks.{IfSplit, IfWhole, HalvesCredit};
 use crate::completer::{Completer, place_at};
 use crate::continuation::Continuation;
 use crate::part::{Handed, PartValue};
-use completion_core::{END, Node};
+use completion_core::Node;
 use pending_count::{Counts, Fits, Place, Seat, Side};
 use std::marker::PhantomData;
 
@@ -82,10 +80,33 @@ impl<'a, T: PartValue, C: Continuation<T>> Tree<'a, Handed<T>, Completer<T, C>> 
         ensures whole { IfWhole result (λ later same. (same ≡ run) × IsSeatOf self.now.counts.now later
             × IsUnchanged seat later) }
     {
-        let (parent, _root) = above(at, END);
+        let (seat, drawn) = self.counts.claim(seat);
+        let Some(node) = drawn else {
+            return Forked::Whole(seat, run);
+        };
+        let (parent, root) = above(at, node);
+        let tag = run.tag();
+        let kept = Completer {
+            run,
+            root,
+            parent,
+            of: PhantomData,
+        };
         let below = [parent];
-        let onward = if at.is_some() { &below } else { self.onward };
-        fork_keeping(self.counts, seat, at, onward, run)
+        let onward = kept_by(at, &below, self.onward);
+        let seat = self.counts.arm_pair(seat, node, onward, kept);
+        let half = seat.credit() / 2;
+        let (left, right) = self.counts.split_side(seat, node, Side::Right, half);
+        Forked::Split(
+            Half {
+                seat: left,
+                place: place_at(node, root, tag, true),
+            },
+            Half {
+                seat: right,
+                place: place_at(node, root, tag, false),
+            },
+        )
     }
 }
 
@@ -99,57 +120,13 @@ fn above<T: Copy>(at: Option<Place<T>>, node: Node) -> (Node, Node)
     }
 }
 
-/// Forks as `Tree::fork` does; the new node keeps an arrival for each entry of `onward`.
-fn fork_keeping<T: PartValue, C: Continuation<T>>(
-    counts: &TreeCounts<T, C>,
-    seat: TreeSeat<T, C>,
-    at: Option<Place<T::Tag>>,
-    onward: &[Node],
-    run: C,
-) -> Forked<Handed<T>, Completer<T, C>, C>
-    requires table { IsSeatOf counts.now seat }
-    requires at { IfSome at (λ p. CanFork (table_id_of counts.now) p seat × (onward.now ≡ p.node ∷ [])
-        × (at ≡ place_by p.node p.root (C.goes_to run))) }
-    requires top { at ≡ None → C.goes_to run ≡ None }
-    requires rooted { Rooted (view_of seat).places }
-    requires have { (i : ℕ) → count i onward.now ≤ count i (view_of seat).held }
-    requires one_side { (i : ℕ) → 0 < count i onward.now
-        → count (left_slot i) (view_of seat).sides + count (right_slot i) (view_of seat).sides ≤ 1 }
-    ensures split { IfSplit result (λ l r. CanFork (table_id_of counts.now) l.place l.seat
-        × CanFork (table_id_of counts.now) r.place r.seat) }
-    ensures places { IfSplit result (λ l r. (l.place ≡ place_at l.place.node l.place.root (C.tag_of run, true))
-        × (r.place ≡ place_at l.place.node l.place.root (C.tag_of run, false))) }
-    ensures tops { IfSplit result (λ l r. KnowsTop at onward.now l.place (view_of seat) (view_of l.seat)
-        × KnowsTop at onward.now r.place (view_of seat) (view_of r.seat)) }
-    ensures credit { IfSplit result (λ l r. HalvesCredit (view_of seat).credit (view_of l.seat).credit
-        (view_of r.seat).credit) }
-    ensures why { IfWhole result (λ later _. ((view_of seat).credit ≡ 0) ⊎ ((view_of later).none_left ≡ true)) }
-    ensures still { IfWhole result (λ later _. IfSome at (λ p. CanFork (table_id_of counts.now) p later)) }
-    ensures whole { IfWhole result (λ later same. (same ≡ run) × IsSeatOf counts.now later × IsUnchanged seat later) }
+/// What a new node keeps an arrival for: the node above it, or what the top of the tree keeps.
+fn kept_by<'b, T: Copy>(at: Option<Place<T>>, below: &'b [Node], top: &'b [Node]) -> &'b [Node]
+    ensures below { IfSome at (λ _. result.now ≡ below.now) }
+    ensures top { at ≡ None → result.now ≡ top.now }
 {
-    let (seat, drawn) = counts.claim(seat);
-    let Some(node) = drawn else {
-        return Forked::Whole(seat, run);
-    };
-    let (parent, root) = above(at, node);
-    let tag = run.tag();
-    let kept = Completer {
-        run,
-        root,
-        parent,
-        of: PhantomData,
-    };
-    let seat = counts.arm_pair(seat, node, onward, kept);
-    let half = seat.credit() / 2;
-    let (left, right) = counts.split_side(seat, node, Side::Right, half);
-    Forked::Split(
-        Half {
-            seat: left,
-            place: place_at(node, root, tag, true),
-        },
-        Half {
-            seat: right,
-            place: place_at(node, root, tag, false),
-        },
-    )
+    match at {
+        Some(_) => below,
+        None => top,
+    }
 }
