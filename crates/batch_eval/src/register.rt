@@ -130,8 +130,8 @@ pub(crate) fn eval_bool(
     }
 }
 
-/// Puts the booleans of a comparison into a register as flags, up to its first fault. A comparison with a number that
-/// doesn't see all of what it compares takes no loop but the one that writes flags.
+/// Puts the booleans of a comparison into a register as flags, up to its first fault. If it is with a number, and sees
+/// not all of the other operand, the loop that writes flags also takes what it sees.
 #[cycle(register)]
 #[tactic(auto, using(crate::proofs::FlagLemmas::flagged_between))]
 fn eval_compared(
@@ -156,8 +156,8 @@ fn eval_compared(
     }
 }
 
-/// Puts the booleans of two connected tests into a register as flags, up to the first fault. Where the right one
-/// compares numbers as they lie with a number, it takes no loop but the one that connects both.
+/// Puts the booleans of two connected tests into a register as flags, up to the first fault. If the right one compares
+/// numbers as they lie with a number, one loop compares them and connects.
 #[cycle(register)]
 #[tactic(auto, using(crate::proofs::FlagLemmas::flagged_chosen))]
 fn eval_connected(
