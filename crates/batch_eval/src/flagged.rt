@@ -23,15 +23,16 @@ use crate::batch::{Batch, stopped};
 use crate::choose::none_set;
 use crate::counted::eval_counted;
 use crate::flagged_lanes::{FlaggedLanes, LaneValues};
+use crate::kernel::Infix;
 use crate::lane_items::LaneItems;
 use crate::number_test::NumberTest;
 use crate::pipeline::Pipeline;
 use crate::reached::Reached;
-use crate::register::{Inputs, LANES, eval_bool, eval_held};
+use crate::register::{Inputs, LANES, eval_between, eval_bool, eval_held};
 use crate::rows::Rows;
 use crate::sink::BatchSink;
 use crate::staging::fed_by;
-use crate::step::compared_with;
+use crate::step::{compared_with, comparison_of, with_number};
 use lambda_values::{BoolExpr, Env};
 use trace::{End, Fed, Flow, Item, LongSink, NoMemory, RangeItems};
 
@@ -134,11 +135,15 @@ fn flags_of<'a>(
     ensures reached { Reaches (at_each inputs.entry (λ x env. flagged (truth_value (truth_of test.now) x env)))
         (λ k. flag_of (holds result.1 (at result.0.now k))) inputs.entry.live result.2 }
 {
-    if let Some((left, set)) = compared_with(test, inputs.env) {
+    let Some((comparison, pair)) = comparison_of(test) else {
+        let reached = eval_bool(test, inputs, register, room);
+        return (register, NumberTest::is_set(), reached);
+    };
+    if let Some((left, set)) = with_number(comparison, pair, inputs.env) {
         let (held, reached) = eval_held(left, inputs, register, room);
         return (held.register(register), set, reached);
     }
-    let reached = eval_bool(test, inputs, register, room);
+    let reached = eval_between(Infix::Compare(comparison), pair, inputs, register, room);
     (register, NumberTest::is_set(), reached)
 }
 

@@ -288,7 +288,7 @@ pub(crate) fn eval_branch<'a>(
 
 /// Two operands from left to right, and an operator between them.
 #[cycle(register)]
-fn eval_between(
+pub(crate) fn eval_between(
     op: Infix,
     pair: &LongPair,
     inputs: Inputs<'_, '_>,
