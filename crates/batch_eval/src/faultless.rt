@@ -77,6 +77,17 @@ pub(crate) fn after_long(expr: &LongExpr, cost: u32, names: bool) -> Option<u32>
         LongExpr::Reference(_) if names => Some(cost),
         LongExpr::Cell(_) if names => Some(cost),
         LongExpr::Reference(_) | LongExpr::Cell(_) => None,
+        _ => after_operator(expr, cost, names),
+    }
+}
+
+/// What an expression with an operator leaves of this cost, as `after_long` says. Most operands are the parameter or a
+/// number: apart from operators they take no call.
+#[cycle(faultless)]
+fn after_operator(expr: &LongExpr, cost: u32, names: bool) -> Option<u32>
+    ensures { IfSome result (λ _. HasValues names (long_of expr.now)) }
+{
+    match expr {
         LongExpr::Unary(operator, operand) => match operator.faults() {
             Faults::Never => after_long(operand, cost.checked_sub(1)?, names),
             Faults::ByZero | Faults::Overflow => None,
@@ -91,6 +102,7 @@ pub(crate) fn after_long(expr: &LongExpr, cost: u32, names: bool) -> Option<u32>
             let left = after_long(&choice.chosen, left, names)?;
             after_long(&choice.other, left, names)
         }
+        _ => None,
     }
 }
 

@@ -17,15 +17,15 @@ after_long-returns-in-Cell t c = rw c.in-Cell.is (cell_values c.args.names _ c.i
 pub after_long-returns-in-Row : goal.after_long-returns-in-Row
 after_long-returns-in-Row t c = rw c.in-Row.is (row_values c.args.names)
 
-pub after_long-returns-in_ok-checked_sub-in-Never : goal.after_long-returns-in_ok-checked_sub-in-Never
-after_long-returns-in_ok-checked_sub-in-Never t c =
+pub after_operator-returns-in_ok-checked_sub-in-Never : goal.after_operator-returns-in_ok-checked_sub-in-Never
+after_operator-returns-in_ok-checked_sub-in-Never t c =
     rw c.in-Unary.is (when_some c.after_long.result
     (unary_values c.args.names c.in-Unary.operator (long_of c.in-Unary.operand.value)
     (unary_there c.in-Unary.operator (sym c.faults.ensures ∙ c.in-Never.is)))
     (rw c.deref.ensures at c.after_long.ensures))
 
-pub after_long-returns-in_ok-left-in-Binary : goal.after_long-returns-in_ok-left-in-Binary
-after_long-returns-in_ok-left-in-Binary t c =
+pub after_operator-returns-in_ok-left-in-Binary : goal.after_operator-returns-in_ok-left-in-Binary
+after_operator-returns-in_ok-left-in-Binary t c =
     let pair = c.in-Binary.pair.value in
     let total = rw c.deref-in-Binary.ensures at c.in_ok-own-in-Binary.ensures in
     let left = rw c.deref-in-Binary-2.ensures at c.in_ok-left-in-Binary.ensures in
@@ -33,8 +33,8 @@ after_long-returns-in_ok-left-in-Binary t c =
     (binary_values c.args.names c.in-Binary.operator (long_of pair.left) (long_of pair.right) total left)
     (rw c.deref-in-Binary-3.ensures at c.after_long-in-Binary-2.ensures))
 
-pub after_long-returns-in_ok-left-in-Choose-2 : goal.after_long-returns-in_ok-left-in-Choose-2
-after_long-returns-in_ok-left-in-Choose-2 t c =
+pub after_operator-returns-in_ok-left-in-Choose-2 : goal.after_operator-returns-in_ok-left-in-Choose-2
+after_operator-returns-in_ok-left-in-Choose-2 t c =
     let choice = c.in-Choose.choice.value in
     let test = rw c.deref-in-Choose.ensures at c.in_ok-left-in-Choose.ensures in
     let chosen = rw c.deref-in-Choose-2.ensures at c.in_ok-left-in-Choose-2.ensures in
