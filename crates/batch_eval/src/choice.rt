@@ -29,7 +29,7 @@ pub(crate) struct Either<'a> {
 }
 
 impl<'a> Either<'a> {
-    /// These two operands.
+    /// A choice between these two operands.
     pub(crate) fn of(chosen: Operand<'a>, other: Operand<'a>) -> Either<'a>
         ensures chosen { result.chosen ≡ chosen.entry }
         ensures other { result.other ≡ other.entry }

@@ -25,7 +25,7 @@ use crate::number_test::NumberTest;
 use crate::operands::{Beside, Branch, Held, Step, connect, fill, flag_held};
 use crate::reached::{Reached, all};
 use crate::rows::{Rows, cells_in_place, gather_cells, number_rows};
-use crate::step::{comparison_of, last_step, no_step, with_number};
+use crate::step::{comparison_of, last_step, may_be_masked, no_step, with_number};
 use lambda_values::{BoolExpr, BoolPair, Comparison, Connective, Env, LongExpr, LongPair};
 
 /// The most lanes of a batch, and the length of a register.
@@ -133,6 +133,7 @@ pub(crate) fn eval_bool(
 /// Puts the booleans of a comparison into a register as flags, up to its first fault. If it is with a number, and sees
 /// not all of the other operand, the loop that writes flags also takes what it sees.
 #[cycle(register)]
+#[inline(always)]
 #[tactic(auto, using(crate::proofs::FlagLemmas::flagged_between))]
 fn eval_compared(
     comparison: Comparison,
@@ -150,10 +151,15 @@ fn eval_compared(
         (compare comparison (long_of pair.now.left) (long_of pair.now.right)) x env)))
         (at out.new) inputs.entry.live result }
 {
-    match with_number(comparison, pair, inputs.env) {
-        Some((left, set)) if !set.sees_all() => eval_flags(left, set, inputs, out, room),
-        _ => eval_between(Infix::Compare(comparison), pair, inputs, out, room),
+    if may_be_masked(&pair.left) {
+        match with_number(comparison, pair, inputs.env) {
+            Some((left, set)) if !set.sees_all() => {
+                return eval_flags(left, set, inputs, out, room);
+            }
+            _ => {}
+        }
     }
+    eval_between(Infix::Compare(comparison), pair, inputs, out, room)
 }
 
 /// Puts the booleans of two connected tests into a register as flags, up to the first fault. If the right one compares

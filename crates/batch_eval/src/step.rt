@@ -142,6 +142,14 @@ fn opposite_of(comparison: Comparison) -> Comparison
     }
 }
 
+/// Whether a comparison may see not all of an expression: an `&` or a `%` comes last.
+pub(crate) fn may_be_masked(expr: &LongExpr) -> bool {
+    matches!(
+        expr,
+        LongExpr::Binary(BinaryOperator::And | BinaryOperator::Remainder, _)
+    )
+}
+
 /// What a comparison with a number sees of an expression, and this without what is seen.
 fn seen_by<'a>(
     comparison: Comparison,
