@@ -1,15 +1,22 @@
-//! Numbers and tests of them where they lie: in the register of the items, or in the cells of rows that count up.
+//! Numbers and tests of them where they lie: in the register of the items, or in the cells of rows that count up; and
+//! cells of other rows, which are put into a register.
 
 ghost use Rattle.batch_eval.specs.Choices.{at_each, lane_passes};
-ghost use Rattle.batch_eval.specs.Lanes.{at};
-ghost use Rattle.batch_eval.specs.Rows.{HasRows};
+ghost use Rattle.batch_eval.specs.Lanes.{Reaches, at};
+ghost use Rattle.batch_eval.specs.Rows.{HasRows, row_at};
+ghost use Rattle.tables.specs.Table.{cells_named};
+ghost use Rattle.lambda_values.specs.Earlier.{cell_at};
 ghost use Rattle.lambda_values.specs.Term.{long_of, truth_of};
 ghost use Rattle.lambda_values.specs.Value.{long_value, truth_value};
 ghost use Rattle.std.specs.Prelude.{◌≡◌, ◌<◌, ◌≤◌, ℕ, IfSome, Ok, length};
 
-use crate::operands::LaneTest;
+use crate::kernel::First;
+use crate::lanes::{Number, Register};
+use crate::loops::run;
+use crate::operands::{LaneTest, fill};
+use crate::reached::Reached;
 use crate::register::Inputs;
-use crate::rows::cells_in_place;
+use crate::rows::{cells_in_place, gather_cells};
 use crate::step::{compared_with, last_step};
 use lambda_values::{BoolExpr, LongExpr};
 
@@ -44,4 +51,20 @@ pub(crate) fn lane_test<'a>(test: &BoolExpr, inputs: Inputs<'a, '_>) -> Option<L
     let xs = numbers_in_place(last.of, inputs)?;
     let step = last.step;
     Some(LaneTest { xs, step, set })
+}
+
+/// Puts the cells of the column with this name into a register.
+pub(crate) fn eval_cells(name: &[u8], inputs: Inputs<'_, '_>, out: &mut [i64]) -> Reached
+    requires rows { HasRows inputs.rows inputs.live }
+    requires out { inputs.live ≤ length out.old }
+    ensures { Reaches (λ k. Ok (cell_at (row_at inputs.entry.rows k) (cells_named name.now inputs.entry.env.now.table)))
+        (at out.new) inputs.entry.live result }
+{
+    let Some(cells) = inputs.env.cells(name) else {
+        return fill(0, inputs.live, out);
+    };
+    match cells_in_place(cells, inputs.rows, inputs.live) {
+        Some(xs) => run::<First, _, _>(Register(xs), Number(0), inputs.live, out),
+        None => gather_cells(cells, inputs.rows, inputs.live, out),
+    }
 }

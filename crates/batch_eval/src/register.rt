@@ -4,10 +4,8 @@ ghost use Rattle.batch_eval.specs.Batches.{holds};
 ghost use Rattle.batch_eval.specs.Lanes.{HasBranch, HasHeld, Reaches, at, branch_at, flag_of, flagged, held_at};
 ghost use Rattle.batch_eval.specs.Lanes.{infix_value};
 ghost use Rattle.batch_eval.specs.Rooms.{Fits, FitsBoth, FitsOperand, FitsTest};
-ghost use Rattle.batch_eval.specs.Rows.{HasRows, row_at};
+ghost use Rattle.batch_eval.specs.Rows.{HasRows};
 ghost use Rattle.batch_eval.specs.Choices.{at_each, between, operand_value};
-ghost use Rattle.tables.specs.Table.{cells_named};
-ghost use Rattle.lambda_values.specs.Earlier.{cell_at};
 ghost use Rattle.lambda_values.specs.Operators.{on};
 ghost use Rattle.lambda_values.specs.Term.{compare, connect as abstract_connect, long_of, truth_of};
 ghost use Rattle.lambda_values.specs.Value.{long_value, truth_value};
@@ -17,14 +15,14 @@ use crate::choice::{Either, eval_chosen};
 use crate::constant::number_in;
 use crate::dispatch::{by_infix, has_shorter_way};
 use crate::flag::flag;
-use crate::in_place::{lane_test, numbers_in_place};
+use crate::in_place::{eval_cells, lane_test, numbers_in_place};
 use crate::kernel::{Equal, First, Infix};
 use crate::lanes::{Number, Own, Register};
 use crate::loops::run;
 use crate::number_test::NumberTest;
 use crate::operands::{Beside, Branch, Held, Step, connect, fill, flag_held};
 use crate::reached::{Reached, all};
-use crate::rows::{Rows, cells_in_place, gather_cells, number_rows};
+use crate::rows::{Rows, number_rows};
 use crate::step::{comparison_of, last_step, may_be_masked, no_step, with_number};
 use lambda_values::{BoolExpr, BoolPair, Comparison, Connective, Env, LongExpr, LongPair};
 
@@ -362,22 +360,6 @@ fn eval_before_number(
     let (held, first) = eval_held(last.of, inputs, out, room);
     let beside = Beside::Number(last.step, y);
     by_infix(op, held, beside, first.live, out).after(first)
-}
-
-/// Puts the cells of the column with this name into a register.
-fn eval_cells(name: &[u8], inputs: Inputs<'_, '_>, out: &mut [i64]) -> Reached
-    requires rows { HasRows inputs.rows inputs.live }
-    requires out { inputs.live ≤ length out.old }
-    ensures { Reaches (λ k. Ok (cell_at (row_at inputs.entry.rows k) (cells_named name.now inputs.entry.env.now.table)))
-        (at out.new) inputs.entry.live result }
-{
-    let Some(cells) = inputs.env.cells(name) else {
-        return fill(0, inputs.live, out);
-    };
-    match cells_in_place(cells, inputs.rows, inputs.live) {
-        Some(xs) => run::<First, _, _>(Register(xs), Number(0), inputs.live, out),
-        None => gather_cells(cells, inputs.rows, inputs.live, out),
-    }
 }
 
 /// An operand in a register, which needs none of its own if it lies in one.
