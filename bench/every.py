@@ -6,7 +6,7 @@ import tempfile
 from collections import namedtuple
 
 from every_rows import contexts, rows
-from lib import TOP, least_of, ran
+from lib import TOP, in_turns, ran
 from running import language, options_of, read, write
 
 PAGE = """Times every operation that docs/job-language.md names, so a new one is measured as soon as the page has it.
@@ -19,6 +19,8 @@ PAGE = """Times every operation that docs/job-language.md names, so a new one is
     --workers A,B  on how many workers (1,4)
     --language N   2 leaves out what version 3 of the language has besides (3), for a program that doesn't read it
     --only TEXT    only rows whose kind and name have this text
+    --before FILE  another program, which takes turns with this one and has to give the same answers: the first column is then the time
+                   divided by that program's. Where a loop lies in memory makes a tenth of difference or more
 
 Each row is measured over a range, a column, a concat, after a filter, after a flatMap and after a limit. Whether a job is one at all
 the program decides: what it refuses, or answers by a fault, is left out. The figures of a row:
@@ -34,10 +36,10 @@ A `toArray` pays for its report. All rows take some minutes, on a machine withou
 ENOUGH_MILLISECONDS, MOST_ITEMS = 50, 2 ** 29
 # Reading a column file takes some hundredths of a second more or less from one run to the next.
 ENOUGH_BESIDE_READING, MOST_JOBS = 200, 256
-LEAST_NANOSECONDS, MARKED = 0.1, 4
+LEAST_NANOSECONDS, MARKED, LOST = 0.1, 4, 1.05
 TEST_ITEMS = 128
 
-Line = namedtuple('Line', 'row place workers nanoseconds')
+Line = namedtuple('Line', 'row place workers nanoseconds before')
 
 
 def each_value(line):
@@ -48,6 +50,7 @@ def each_value(line):
 class Bench:
     def __init__(self, options, folder):
         self.options, self.folder, self.starts = options, folder, {}
+        self.programs = [options.program] + [os.path.abspath(options.before)] * bool(options.before)
         self.page = read(os.path.join(TOP, 'docs', 'job-language.md')).decode()
         for name, length in (('few', TEST_ITEMS), ('many', options.rows)):
             write(self.path(f'{name}.csv'), 'a,b\n' + ''.join(f'{it},{it % 10}\n' for it in range(length)))
@@ -55,18 +58,20 @@ class Bench:
     def path(self, name):
         return os.path.join(self.folder, name)
 
-    def command(self, job, columns, workers, times=1):
+    def command(self, program, job, columns, workers, times=1):
         """The command over this job, written some times."""
         newest = self.options.language
         version = 'version 3\n' if newest > 2 else ''
         jobs = write(self.path('jobs'), version + ''.join(f'j{it} = {job}\n' for it in range(times)))
-        return [self.options.program, *language(newest), '--workers', str(workers), *(['--columns', self.path(columns)] if columns else []), jobs]
+        return [program, *language(newest), '--workers', str(workers), *(['--columns', self.path(columns)] if columns else []), jobs]
 
     def least(self, *words):
-        return least_of(self.options.rounds, self.command(*words), most=40)
+        """The least cost of each program."""
+        commands = {it: self.command(it, *words) for it in self.programs}
+        return list(in_turns(self.options.rounds, commands, most=40).values())
 
     def start(self, columns, workers):
-        """What a run costs that does nothing but start and read the column file."""
+        """What a run of each program costs that does nothing but start and read the column file."""
         if (columns, workers) not in self.starts:
             self.starts[columns, workers] = self.least('of(1).sum()', columns, workers)
         return self.starts[columns, workers]
@@ -74,7 +79,7 @@ class Bench:
     def kind_of(self, row):
         """The kind of a row, by its answer too, or None if the program doesn't take its job or answers by a fault."""
         job = f'{row.source or contexts(TEST_ITEMS)[0][1]}.{row.rest}'
-        cost = ran(self.command(job, 'few.csv', 1), is_needed=False, most=40)
+        cost = ran(self.command(self.options.program, job, 'few.csv', 1), is_needed=False, most=40)
         if cost is None or '= fault' in cost.printed:
             return None
         return f'{row.sort}, an array' if '= [' in cost.printed else row.kind
@@ -87,8 +92,8 @@ class Bench:
             source, items = (row.source, length) if row.source else contexts(length)[place][1:]
             columns = 'many.csv' if 'column(' in source else None
             items = self.options.rows * times if columns else items
-            start, cost = self.start(columns, workers), self.least(f'{source}.{row.rest}', columns, workers, times)
-            taken = max(cost.wall - start.wall, 0)
+            costs = list(zip(self.least(f'{source}.{row.rest}', columns, workers, times), self.start(columns, workers)))
+            taken = max(costs[0][0].wall - costs[0][1].wall, 0)
             enough = ENOUGH_BESIDE_READING if columns else ENOUGH_MILLISECONDS
             grown, most = (times * 4, MOST_JOBS) if columns else (length * 8, MOST_ITEMS)
             if taken >= enough or grown > most or self.options.items < 10 ** 6:
@@ -99,8 +104,8 @@ class Bench:
             else:
                 length = grown
         name = contexts(length)[place][0] if row.source is None else 'itself'
-        counted = max(cost.processor - start.processor, 0) if workers == 1 else taken
-        return Line(row._replace(kind=kind), name, workers, counted / items * 1e6)
+        counted = [max(cost.processor - start.processor if workers == 1 else cost.wall - start.wall, 0) for cost, start in costs]
+        return Line(row._replace(kind=kind), name, workers, *(counted[it] / items * 1e6 for it in (0, -1)))
 
     def lines(self):
         for at, row in enumerate(rows(self.page, TEST_ITEMS)):
@@ -113,32 +118,36 @@ class Bench:
                     yield self.line(at, kind, place, workers)
 
 
-def factors(lines):
-    """(factor or None, line), the farthest from the best of its kind first."""
+def of_kind(lines):
+    """For each line its time by the best of its kind."""
     best = {}
     for line in lines:
         group = line.row.kind, line.place, line.workers
         if line.nanoseconds >= LEAST_NANOSECONDS:
             best[group] = min(each_value(line), best.get(group, each_value(line)))
-    found = []
-    for line in lines:
-        is_timed = line.nanoseconds >= LEAST_NANOSECONDS
-        found.append((each_value(line) / best[line.row.kind, line.place, line.workers] if is_timed else None, line))
+    return lambda line: each_value(line) / best[line.row.kind, line.place, line.workers]
+
+
+def factors(lines, factor_of):
+    """(factor or None, line), the greatest factor first; None if the line takes too little time."""
+    found = [(factor_of(line) if min(line.nanoseconds, line.before) >= LEAST_NANOSECONDS else None, line) for line in lines]
     return sorted(found, key=lambda it: -(it[0] or 0))
 
 
 def every():
-    options = options_of(PAGE, items=4_000_000, rows=1_000_000, rounds=3, workers=['1', '4'], language=3, only='')
+    options = options_of(PAGE, items=4_000_000, rows=1_000_000, rounds=3, workers=['1', '4'], language=3, only='', before='')
     with tempfile.TemporaryDirectory() as folder:
         lines = list(Bench(options, folder).lines())
+    title, most, factor_of = ('of before', LOST, lambda line: line.nanoseconds / line.before) if options.before else \
+        ('of its kind', MARKED, of_kind(lines))
     print(f'{len(os.sched_getaffinity(0))} processors, least of {options.rounds} runs')
-    print('| of its kind | ns per item | workers | place | kind | row |\n|---|---|---|---|---|---|')
+    print(f'| {title} | ns per item | workers | place | kind | row |\n|---|---|---|---|---|---|')
     marked = 0
-    for factor, line in factors(lines):
-        is_marked = factor is not None and factor > MARKED
+    for factor, line in factors(lines, factor_of):
+        is_marked = factor is not None and factor > most
         marked += is_marked
-        shown = '-' if factor is None else f'**{factor:.1f}**' if is_marked else f'{factor:.1f}'
+        shown = '-' if factor is None else f'**{factor:.2f}**' if is_marked else f'{factor:.2f}'
         name = line.row.name.replace('|', '\\|')
         print(f'| {shown} | {line.nanoseconds:.2f} | {line.workers} | {line.place} | {line.row.kind} | `{name}` |')
-    print(f'every: {len(lines)} rows, {marked} beyond {MARKED} times the best of their kind')
+    print(f'every: {len(lines)} rows, {marked} beyond {most} times {"the program before" if options.before else "the best of their kind"}')
     return 0 if lines else 1

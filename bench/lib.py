@@ -39,9 +39,9 @@ def least_of(turns, command, **more):
     return least(ran(command, **more) for _ in range(turns))
 
 
-def in_turns(turns, commands):
+def in_turns(turns, commands, **more):
     """The least cost of each command, by its name; they take turns, and have to give the words that the first one gives."""
-    rounds = [{name: ran(command) for name, command in commands.items()} for _ in range(turns)]
+    rounds = [{name: ran(command, **more) for name, command in commands.items()} for _ in range(turns)]
     found = {name: least(one[name] for one in rounds) for name in commands}
     wanted = next(iter(found.values())).printed.split()
     for name, cost in found.items():
