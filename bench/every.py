@@ -2,6 +2,8 @@
 slow: each source, stage and terminal, each operator of folds and of lambdas, each call.
 """
 import os
+import shutil
+import sys
 import tempfile
 from collections import namedtuple
 
@@ -23,7 +25,7 @@ PAGE = """Times every operation that docs/job-language.md names, so a new one is
                    divided by that program's. Where a loop lies in memory makes a tenth of difference or more
 
 Each row is measured over a range, a column, a concat, after a filter, after a flatMap and after a limit. Whether a job is one at all
-the program decides: what it refuses, or answers by a fault, is left out. The figures of a row:
+the programs decide: what one refuses, or answers by a fault, is left out. The figures of a row:
 
 - of its kind: the time per item, or per value that it gives if these are more, or per part of a chain, divided by the time of the
   fastest row of its kind in its place, on as many workers; beyond 4 it is marked; `-` if a row takes less than 0.1 ns per item: it ends early or walks nothing.
@@ -50,7 +52,7 @@ def each_value(line):
 class Bench:
     def __init__(self, options, folder):
         self.options, self.folder, self.starts = options, folder, {}
-        self.programs = [options.program] + [os.path.abspath(options.before)] * bool(options.before)
+        self.programs = [options.program, options.before] if options.before else [options.program]
         self.page = read(os.path.join(TOP, 'docs', 'job-language.md')).decode()
         for name, length in (('few', TEST_ITEMS), ('many', options.rows)):
             write(self.path(f'{name}.csv'), 'a,b\n' + ''.join(f'{it},{it % 10}\n' for it in range(length)))
@@ -77,12 +79,12 @@ class Bench:
         return self.starts[columns, workers]
 
     def kind_of(self, row):
-        """The kind of a row, by its answer too, or None if the program doesn't take its job or answers by a fault."""
+        """The kind of a row, by its answer too, or None if a program doesn't take its job or answers by a fault."""
         job = f'{row.source or contexts(TEST_ITEMS)[0][1]}.{row.rest}'
-        cost = ran(self.command(self.options.program, job, 'few.csv', 1), is_needed=False, most=40)
-        if cost is None or '= fault' in cost.printed:
+        costs = [ran(self.command(it, job, 'few.csv', 1), is_needed=False, most=40) for it in self.programs]
+        if any(cost is None or '= fault' in cost.printed for cost in costs):
             return None
-        return f'{row.sort}, an array' if '= [' in cost.printed else row.kind
+        return f'{row.sort}, an array' if '= [' in costs[0].printed else row.kind
 
     def line(self, at, kind, place, workers):
         """The figures of the row with this number in a place, at a length at which it takes long enough."""
@@ -136,10 +138,17 @@ def factors(lines, factor_of):
 
 def every():
     options = options_of(PAGE, items=4_000_000, rows=1_000_000, rounds=3, workers=['1', '4'], language=3, only='', before='')
+    if options.before:
+        found = shutil.which(options.before)
+        if found is None:
+            sys.exit(f'bench/run every: no program at {options.before}')
+        options.before = os.path.abspath(found)
     with tempfile.TemporaryDirectory() as folder:
         lines = list(Bench(options, folder).lines())
-    title, most, factor_of = ('of before', LOST, lambda line: line.nanoseconds / line.before) if options.before else \
-        ('of its kind', MARKED, of_kind(lines))
+    if options.before:
+        title, most, beside, factor_of = 'of before', LOST, 'the program before', lambda line: line.nanoseconds / line.before
+    else:
+        title, most, beside, factor_of = 'of its kind', MARKED, 'the best of their kind', of_kind(lines)
     print(f'{len(os.sched_getaffinity(0))} processors, least of {options.rounds} runs')
     print(f'| {title} | ns per item | workers | place | kind | row |\n|---|---|---|---|---|---|')
     marked = 0
@@ -149,5 +158,5 @@ def every():
         shown = '-' if factor is None else f'**{factor:.2f}**' if is_marked else f'{factor:.2f}'
         name = line.row.name.replace('|', '\\|')
         print(f'| {shown} | {line.nanoseconds:.2f} | {line.workers} | {line.place} | {line.row.kind} | `{name}` |')
-    print(f'every: {len(lines)} rows, {marked} beyond {most} times {"the program before" if options.before else "the best of their kind"}')
+    print(f'every: {len(lines)} rows, {marked} beyond {most} times {beside}')
     return 0 if lines else 1
