@@ -17,7 +17,7 @@ impl<'s, R: Wait + Sync, W: Work, G: Gate + Sync> Pool<'s, R, W, G>
 where
     W::Task: Drop,
 {
-    /// Starts a thread for each worker from number 2 on, as long as something is left, and as far as threads can be
+    /// Starts a thread for each worker from number 1 on, as long as something is left, and as far as threads can be
     /// made.
     fn start<E, F: TaskFinder<W::Task> + Send + Drop>(
         self,
@@ -29,7 +29,7 @@ where
         F: 's,
         W: 's,
     {
-        for (number, (idle, finder)) in (2..).zip(idle.zip(finders)) {
+        for (number, (idle, finder)) in (1..).zip(idle.zip(finders)) {
             let (idle, left) = self.work.left(self.rt, idle);
             if left == 0 {
                 return;
@@ -45,8 +45,8 @@ where
         }
     }
 
-    /// Runs the tasks on the workers. Worker 0 is the caller. It starts a thread for worker 1, which starts the threads
-    /// of the others: so the caller is at work at once, and a short run is over before it has all threads.
+    /// Runs the tasks on the workers. Worker 0 is the caller. It works after it has started the others, which start
+    /// none: Linux may begin a thread up to four milliseconds late while the thread that started it is at work.
     fn run_workers<F: TaskFinder<W::Task> + Send + Drop>(
         self,
         first: Vec<W::Task>,
@@ -72,22 +72,12 @@ where
                 let Some(my_idle) = idle.next() else {
                     unreachable!()
                 };
-                if let (Some(its_idle), Some(finder)) = (idle.next(), others.next()) {
-                    let second = Worker {
-                        number: 1,
-                        idle: its_idle,
-                        finder,
-                    };
-                    let _ = scope.spawn(move || {
-                        self.start(scope, idle, others);
-                        self.work_on(second);
-                    });
-                }
                 let me = Worker {
                     number: 0,
                     idle: self.begin(my_idle, first, &mut mine),
                     finder: mine,
                 };
+                self.start(scope, idle, others);
                 self.work_on(me)
             },
         )
