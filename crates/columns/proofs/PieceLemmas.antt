@@ -109,7 +109,7 @@ whole_at columns i c h whole = elim (cases_Bool (get_or columns i c).is_whole) [
 ]
 
 put_at : (pieces : List TextPiece) (before after : List Column) (d : NamedColumn) → length after ≡ length before
-    → ArePut pieces before after → list_all (λ k. k.is_whole) after ≡ true
+    → ArePut pieces 0 before after → list_all (λ k. k.is_whole) after ≡ true
     → (i : ℕ) → i < length (map named after)
     → get_or (map named after) i d ≡ get_or (append_pieces (map named before) pieces) i d
 put_at pieces before [] d same put whole i h = absurd (omega arith)
@@ -117,14 +117,16 @@ put_at pieces before (a ∷ after) d same put whole i h =
     let in_after : i < length (a ∷ after) = rw length-map at h in
     let in_before : i < length before = omega (arith, same, in_after) in
     let in_named : i < length (map named before) = omega (arith, length-map before named, in_before) in
-    let there = put i a in_before (whole_at (a ∷ after) i a in_after whole) in
+    let at_first : 0 + i ≡ i = omega arith in
+    let placed = put i a in_before in
+    let there = (rw at_first at placed) (whole_at (a ∷ after) i a in_after whole) in
     get_or-map named (a ∷ after) i a d in_after ∙ there
     ∙ ap (λ c. with_pieces c pieces i) (sym (get_or-map named before i a d in_before))
     ∙ sym (get_or-append_pieces pieces (map named before) i d in_named)
 
 -- columns that are whole have the cells of all pieces
 pub put_all : (pieces : List TextPiece) (before after : List Column) → length after ≡ length before
-    → ArePut pieces before after → list_all (λ k. k.is_whole) after ≡ true
+    → ArePut pieces 0 before after → list_all (λ k. k.is_whole) after ≡ true
     → map named after ≡ append_pieces (map named before) pieces
 put_all pieces before after same put whole =
     let d : NamedColumn = record { name = []; cells = [] } in

@@ -1,5 +1,5 @@
 -- Condition: rows that were read in pieces of their text.
-use Rattle.std.specs.Prelude.{◌≡◌, ◌<◌, ◌≤◌, ◌++◌, ◌∷◌, [], ℕ, ℤ, zero, suc, true, List, length, map, drop, fold}
+use Rattle.std.specs.Prelude.{◌≡◌, ◌<◌, ◌≤◌, ◌+◌, ◌++◌, ◌∷◌, [], ℕ, ℤ, zero, suc, true, List, length, map, drop, fold}
 use Rattle.std.specs.Prelude.{get_or}
 use Rattle.columns.specs.declared.layout.Layout.{Layout}
 use Rattle.columns.specs.declared.pieces.TextPiece.{TextPiece}
@@ -41,10 +41,10 @@ with_pieces c pieces place = record {
 abbrev pub IsPut : List TextPiece → ℕ → Column → Column → Type 0
 IsPut pieces place before after = after.is_whole ≡ true → named after ≡ with_pieces (named before) pieces place
 
--- each column that is whole has the cells of all pieces
-abbrev pub ArePut : List TextPiece → List Column → List Column → Type 0
-ArePut pieces before after =
-    (place : ℕ) (c : Column) → place < length before → IsPut pieces place (get_or before place c) (get_or after place c)
+-- each column that is whole has the cells of all pieces; the first of these columns has this place
+abbrev pub ArePut : List TextPiece → ℕ → List Column → List Column → Type 0
+ArePut pieces first before after =
+    (i : ℕ) (c : Column) → i < length before → IsPut pieces (first + i) (get_or before i c) (get_or after i c)
 
 -- the piece holds the rows from a record's start, if one is there, to another one
 pub record IsPiece (l : Layout) (text : List ℕ) (width : ℕ) (p : TextPiece) : Type 0 where

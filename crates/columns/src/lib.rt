@@ -14,7 +14,7 @@
 //! `specs/Cell.antt` (the grammar of one number), `specs/TableForms.antt` (other forms) and `specs/Decimals.antt`; of
 //! the code with `reading.rt`. `records.rt` alone opens a `csv` reader; `text_rows.rt` reads rows without it, numbers
 //! by `numbers.rt`, decimals by `text_decimals.rt` and other cells by `text_cell.rt`, and `pieces.rt` reads them on
-//! threads.
+//! threads, with `put_pieces.rt`.
 //!
 //! Not promised: anything of the bytes that a file or a pipe holds, and that there is memory.
 //!
@@ -33,11 +33,13 @@ mod layout;
 mod numbers;
 mod pieces;
 mod put_cell;
+mod put_pieces;
 mod reading;
 mod records;
 mod round_bytes;
 mod rounds;
 mod rows;
+mod team;
 mod text_cell;
 mod text_decimals;
 mod text_rows;

@@ -5,105 +5,48 @@
 //! so no cut inside quotes is taken for one between records. The next pieces begin where the last one ended whose rows
 //! were put: there a record begins.
 //!
-//! One piece for each worker is read at a time, each on a thread. Then each column gets its cells on a thread of its
-//! own. The vectors of the pieces are used again, since memory that is new to the system costs more time than the
-//! parsing of what is put there.
-ghost use Rattle.std.specs.Prelude.{◌≡◌, ◌≤◌, true, All, List, IfOk, length, map, drop, take};
-ghost use Rattle.std.specs.List.{list_all};
+//! Each thread reads the next piece that no thread has begun, so one that starts late reads fewer. The vectors of the
+//! pieces are used again, since memory that is new to the system costs more time than the parsing of what is put there.
+ghost use Rattle.std.specs.Prelude.{◌≡◌, ◌≤◌, All, List, IfOk, length, map, drop, take};
+ghost use denote.Param.Send.{IsSync};
 ghost use Rattle.columns.specs.declared.layout.Layout.{Layout};
 ghost use Rattle.columns.specs.Layouts.{AreReadBy, Fits};
-ghost use Rattle.columns.specs.Pieces.{ArePut, IsPieceThere, IsPut, append_pieces, blanks};
+ghost use Rattle.columns.specs.Pieces.{IsPieceThere, append_pieces, blanks};
 ghost use Rattle.tables.specs.Table.{NamedColumn};
 ghost use Rattle.tables.specs.TableOfColumns.{named};
 ghost use Rattle.columns.specs.TextRows.{AreEven};
 
-use crate::header::rows_to_expect;
 use crate::layout::Layout;
+use crate::put_pieces::put_pieces;
+use crate::team::MOST;
 use crate::text_rows::read_text_rows;
-use std::alloc::{AllocError, Global};
+use std::alloc::AllocError;
+use std::sync::atomic::AtomicUsize;
+use std::sync::atomic::Ordering::SeqCst;
 use std::thread;
 use std::thread::Threads;
 use tables::Column;
 
-/// What parses a text in pieces: workers, each on a thread, and how many bytes a piece has at least.
-#[derive(Drop)]
-pub(crate) struct Team<'a, H> {
-    pub(crate) rt: &'a H,
-    pub(crate) workers: usize,
-    pub(crate) piece: usize,
+/// What the threads of a turn read: pieces of a text of this many bytes each. The next piece that no thread has begun
+/// starts at `next`.
+#[derive(Clone, Copy)]
+struct Turn<'a> {
+    text: &'a [u8],
+    bytes: usize,
+    next: &'a AtomicUsize,
 }
 
 /// The rows of a part of a text, under columns without names, if they were read.
 #[derive(Drop)]
 pub(crate) struct TextPiece {
-    from: usize,
-    to: usize,
-    is_read: bool,
-    columns: Vec<Column>,
+    pub(crate) from: usize,
+    pub(crate) to: usize,
+    pub(crate) is_read: bool,
+    pub(crate) columns: Vec<Column>,
 }
 
-/// Pieces for a round of these bytes, whose rows start at `from`: none for one worker, for a file of less than two
-/// pieces, and if there is no memory for them.
-pub(crate) fn pieces_for<H>(
-    team: &Team<'_, H>,
-    alloc: Global,
-    bytes: &[u8],
-    from: usize,
-    width: usize,
-) -> Vec<TextPiece>
-    requires { from ≤ length bytes.now }
-{
-    if team.workers < 2 || bytes.len() / 2 < team.piece {
-        return Vec::new(alloc);
-    }
-    let count = team.workers.min(bytes.len().div_ceil(team.piece.max(1)));
-    let rows = &bytes[from..];
-    let first = &rows[..team.piece.min(rows.len())];
-    match empty_pieces(
-        alloc,
-        count,
-        width,
-        rows_to_expect(first, first.len(), width),
-    ) {
-        Ok(pieces) => pieces,
-        Err(AllocError) => Vec::new(alloc),
-    }
-}
-
-/// A number of pieces, none of them read yet, with room for this many rows each.
-fn empty_pieces(
-    alloc: Global,
-    count: usize,
-    width: usize,
-    rows: usize,
-) -> Result<Vec<TextPiece>, AllocError> {
-    let mut pieces = Vec::with_capacity(alloc, count)?;
-    for _ in 0..count {
-        pieces.push(TextPiece {
-            from: 0,
-            to: 0,
-            is_read: false,
-            columns: nameless_columns(alloc, width, rows)?,
-        })?;
-    }
-    Ok(pieces)
-}
-
-/// Columns without names and cells, with room for this many rows.
-fn nameless_columns(alloc: Global, width: usize, rows: usize) -> Result<Vec<Column>, AllocError> {
-    let mut columns = Vec::with_capacity(alloc, width)?;
-    for _ in 0..width {
-        columns.push(Column {
-            name: Vec::new(alloc),
-            cells: Vec::with_capacity(alloc, rows)?,
-            is_whole: true,
-        })?;
-    }
-    Ok(columns)
-}
-
-/// Reads the rows of a text, which begins with a record, in turns of `pieces.len()` pieces, puts them under the columns
-/// and answers up to where they are plain. Without pieces they are read under the columns on this thread.
+/// Reads the rows of a text, which begins with a record, in turns of at most `pieces.len()` pieces, puts them under the
+/// columns and answers up to where they are plain. Without pieces they are read under the columns on this thread.
 pub(crate) fn read_in_turns<H: Threads + Sync>(
     rt: &H,
     text: &[u8],
@@ -121,6 +64,7 @@ pub(crate) fn read_in_turns<H: Threads + Sync>(
     if pieces.is_empty() {
         return Ok(read_text_rows(text, 0, text.len(), layout, columns));
     }
+    let threads = pieces.len().div_ceil(MOST);
     let mut at = 0;
     // Each turn takes a byte at least.
     for _ in 0..text.len() {
@@ -128,12 +72,12 @@ pub(crate) fn read_in_turns<H: Threads + Sync>(
         if rest.is_empty() {
             break;
         }
-        read_pieces(rt, rest, bytes, layout, pieces, columns.len());
+        read_turn(rt, rest, bytes, layout, columns.len(), pieces);
         let (count, read) = pieces_in_line(rest, pieces);
         if read == 0 {
             break;
         }
-        if !put_pieces(rt, &pieces[..count], columns) {
+        if !put_pieces(rt, threads, &pieces[..count], columns) {
             return Err(AllocError);
         }
         at += read;
@@ -141,31 +85,90 @@ pub(crate) fn read_in_turns<H: Threads + Sync>(
     Ok(at)
 }
 
-/// Reads the pieces at the start of a text.
-fn read_pieces<H: Threads + Sync>(
+/// Reads pieces of a text, which begins with a record, and sorts them by where they begin. If all of the text is read,
+/// the pieces that are left are empty ones at its end.
+fn read_turn<H: Threads + Sync>(
     rt: &H,
     text: &[u8],
     bytes: usize,
     layout: &Layout,
-    pieces: &mut [TextPiece],
     width: usize,
+    pieces: &mut [TextPiece],
 )
     requires { Fits layout.now width }
     ensures { All (IsPieceThere layout.now text.now width) pieces.new }
 {
-    let count = pieces.len().max(1);
-    let read = |index: usize, piece: &mut TextPiece|
-        requires { Fits layout.now width }
-        ensures { IsPieceThere layout.entry.now text.entry.now width piece.new }
-    { read_piece(text, index, bytes, layout, width, piece) };
-    thread::for_each_mut(rt, pieces, count, &read);
+    let next = AtomicUsize::new(0);
+    let turn = Turn {
+        text,
+        bytes,
+        next: &next,
+    };
+    read_pieces(rt, turn, layout, width, pieces);
+    pieces.sort_unstable_by_key(|piece| piece.from);
+    mend(text, layout, width, 0, pieces);
 }
 
-/// Reads the piece of this number: from the first line that begins in it, until a row ends at its end or after it, or
-/// isn't plain. A piece of another width stays unread.
+/// Reads pieces, up to eight on each thread. This thread starts the others and waits: while it is at work itself, Linux
+/// may keep a thread that it started waiting for its processor, up to four milliseconds.
+#[cycle(turn)]
+fn read_pieces<H: Threads + Sync>(
+    rt: &H,
+    turn: Turn<'_>,
+    layout: &Layout,
+    width: usize,
+    pieces: &mut [TextPiece],
+)
+    requires { Fits layout.now width }
+    ensures { All (IsPieceThere layout.now turn.entry.text.now width) pieces.new }
+{
+    if pieces.is_empty() {
+        return;
+    }
+    let (mine, others) = pieces.split_at_mut(MOST.min(pieces.len()));
+    let mut read = ||
+        requires { Fits layout.now width }
+        ensures { All (IsPieceThere layout.entry.now turn.entry.text.now width) mine.exit.now }
+    { read_own(turn, layout, width, mine) };
+    let mut read_others = ||
+        requires { IsSync H.row × Fits layout.now width }
+        ensures { All (IsPieceThere layout.entry.now turn.entry.text.now width) others.exit.now }
+    { read_pieces(rt, turn, layout, width, others) };
+    thread::join_mut(rt, &mut read, &mut read_others);
+}
+
+/// Reads pieces on this thread.
+fn read_own(turn: Turn<'_>, layout: &Layout, width: usize, pieces: &mut [TextPiece])
+    requires { Fits layout.now width }
+    ensures { All (IsPieceThere layout.now turn.entry.text.now width) pieces.new }
+{
+    if let Some((piece, others)) = pieces.split_first_mut() {
+        let start = turn.next.fetch_add(turn.bytes, SeqCst);
+        read_piece(turn.text, start, turn.bytes, layout, width, piece);
+        read_own(turn, layout, width, others);
+    }
+}
+
+/// Reads those pieces again that begin within the last row before them, which ends at `at` for the first one: the text
+/// was cut in quotes.
+fn mend(text: &[u8], layout: &Layout, width: usize, at: usize, pieces: &mut [TextPiece])
+    requires fits { Fits layout.now width }
+    requires there { All (IsPieceThere layout.now text.now width) pieces.old }
+    ensures { All (IsPieceThere layout.now text.now width) pieces.new }
+{
+    if let Some((piece, later)) = pieces.split_first_mut() {
+        if piece.from < at {
+            let end = later.first().map_or(text.len(), |next| next.from);
+            read_between(text, at, end, layout, width, piece);
+        }
+        mend(text, layout, width, piece.to, later);
+    }
+}
+
+/// Reads a piece of this many bytes, from the first line on that begins at `start` or after it.
 fn read_piece(
     text: &[u8],
-    index: usize,
+    start: usize,
     bytes: usize,
     layout: &Layout,
     width: usize,
@@ -174,14 +177,29 @@ fn read_piece(
     requires { Fits layout.now width }
     ensures { IsPieceThere layout.now text.now width piece.new }
 {
-    let start = index.saturating_mul(bytes).min(text.len());
-    let first = line_start(text, start);
+    let first = line_start(text, start.min(text.len()));
     let end = start.saturating_add(bytes).min(text.len());
     let to = line_start(text, end.max(first));
-    piece.from = first;
+    read_between(text, first, to, layout, width, piece);
+}
+
+/// Reads a piece, until a row ends at `to` or after it, or isn't plain. A piece of another width stays unread.
+fn read_between(
+    text: &[u8],
+    from: usize,
+    to: usize,
+    layout: &Layout,
+    width: usize,
+    piece: &mut TextPiece,
+)
+    requires { Fits layout.now width }
+    ensures { IsPieceThere layout.now text.now width piece.new }
+{
+    piece.from = from.min(text.len());
     piece.is_read = piece.columns.len() == width;
     if piece.is_read {
-        piece.to = read_anew(text, first, to, layout, piece.columns.as_mut_slice());
+        let end = to.min(text.len()).max(piece.from);
+        piece.to = read_anew(text, piece.from, end, layout, piece.columns.as_mut_slice());
     }
 }
 
@@ -236,51 +254,4 @@ fn pieces_in_line(text: &[u8], pieces: &[TextPiece]) -> (usize, usize)
         at = piece.to;
     }
     (pieces.len(), at)
-}
-
-/// Puts the cells of all pieces under the columns in their places, and answers whether there was memory for all of
-/// them.
-fn put_pieces<H: Threads + Sync>(rt: &H, pieces: &[TextPiece], columns: &mut [Column]) -> bool
-    ensures { result ≡ true → map named columns.new ≡ append_pieces (map named columns.old) pieces.now }
-{
-    put_columns(rt, pieces, columns);
-    are_whole(columns)
-}
-
-/// Puts the cells of all pieces under the columns in their places; the columns that are whole after it have all of
-/// their cells.
-fn put_columns<H: Threads + Sync>(rt: &H, pieces: &[TextPiece], columns: &mut [Column])
-    ensures { ArePut pieces.now columns.old columns.new }
-{
-    let count = pieces.len().max(1);
-    let put = |place: usize, column: &mut Column|
-        ensures { IsPut pieces.entry.now place column.old column.new }
-    { put_column(pieces, place, column) };
-    thread::for_each_mut(rt, columns, count, &put);
-}
-
-fn are_whole(columns: &[Column]) -> bool
-    ensures { result ≡ list_all (λ c. c.is_whole) columns.now }
-{
-    columns.iter().all(|column| column.is_whole)
-}
-
-/// Puts the cells of each piece's column in this place under the column.
-fn put_column(pieces: &[TextPiece], place: usize, column: &mut Column)
-    ensures { IsPut pieces.now place column.old column.new }
-{
-    column.is_whole = false;
-    for piece in pieces {
-        let Some(part) = piece.columns.get(place) else {
-            return;
-        };
-        if column
-            .cells
-            .extend_from_slice(part.cells.as_slice())
-            .is_err()
-        {
-            return;
-        }
-    }
-    column.is_whole = true;
 }

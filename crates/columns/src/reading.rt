@@ -15,14 +15,17 @@ use crate::by_records::{columns_in, put_rest};
 use crate::fault::ColumnFault;
 use crate::header::{plain_header, without_mark};
 use crate::layout::{Layout, TableForm};
-use crate::pieces::Team;
 use crate::round_bytes::{no_bytes, read_on};
 use crate::rounds::columns_in_rounds;
+use crate::team::{SHARE, Team};
 use crate::text_rows::read_text_rows;
 use counted_io::{CountedRead, ReadAllFault, read_all_of};
 use std::alloc::Global;
 use std::thread::Threads;
 use tables::{Column, Columns};
+
+/// How many threads parse a file at most: one thread reads it, and more wait for it.
+const MOST_THREADS: usize = 16;
 
 /// The columns of a file of comma-separated integers.
 ///
@@ -51,15 +54,16 @@ pub fn read_columns<R: CountedRead>(alloc: Global, reader: &mut R) -> Result<Col
     columns_alone(alloc, &bytes, &form)
 }
 
-/// The columns, or the fault, that `read_columns` gives, parsed on threads. Pieces of at least `piece` bytes are cut
-/// after line feeds. One piece for each worker is parsed at a time, while the next ones are read.
+/// The columns, or the fault, that `read_columns` gives, parsed on a thread for each worker, and on 16 at most.
 ///
-/// A file of no more than a piece for each worker is read whole first. Of a longer file only these are held: the pieces
-/// in hand, the pieces that are read meanwhile, their cells, and 8 bytes for each cell. A thread is started for each
-/// worker whenever that many pieces are parsed. If there are at least that many columns, threads are started again to
-/// put the cells under the columns. One worker reads and parses in turns: for it, and for a file of less than two
-/// pieces, no thread is started. If a row isn't plain, all bytes from its pieces on are read whole and parsed on one
-/// thread: if the file is refused, or a number is quoted in part.
+/// The file is read in rounds: of each worker four pieces of some `piece` bytes, cut after line feeds. While the pieces
+/// of one round are parsed, the bytes of the next one are read. A file of no more than a round is read whole first. Of
+/// a longer file only these are held: the bytes of two rounds, the cells of one, and 8 bytes for each cell.
+///
+/// In each round threads are started twice: to parse its pieces, and to put the cells under the columns. One worker
+/// reads and parses in turns: for it, and for a file of less than two pieces, no thread is started. If a row isn't
+/// plain, all bytes from its round on are read whole and parsed on one thread: if the file is refused, or a number is
+/// quoted in part.
 ///
 /// For other programs: `streamrun` reads a table in the form that its settings ask for, by `read_columns_as`.
 pub fn read_columns_by<H: Threads + Sync, R: CountedRead>(
@@ -109,10 +113,10 @@ pub fn read_columns_as<H: Threads + Sync, R: CountedRead>(
         → HasRisen (R.failures reader.old) (R.failures reader.new)) }
     ensures counts { R.failures reader.old ≤ R.failures reader.new }
 {
-    let workers = workers.max(1);
+    let workers = workers.max(1).min(MOST_THREADS);
     // Of pieces without a byte a turn would read nothing.
     let piece = piece.max(1);
-    let limit = workers.saturating_mul(piece).max(1);
+    let limit = piece.saturating_mul(SHARE * workers).max(1);
     let team = Team { rt, workers, piece };
     columns_up_to(&team, alloc, reader, limit, form)
 }

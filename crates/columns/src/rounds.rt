@@ -25,8 +25,9 @@ use crate::by_records::{columns_by_records, columns_in, put_by_records, put_rest
 use crate::fault::ColumnFault;
 use crate::header::{mark_end, plain_header};
 use crate::layout::{Layout, TableForm};
-use crate::pieces::{Team, TextPiece, pieces_for, read_in_turns};
+use crate::pieces::{TextPiece, read_in_turns};
 use crate::round_bytes::{begin_with, last_line_end, no_bytes, read_on};
+use crate::team::{Team, pieces_for};
 use counted_io::CountedRead;
 use std::alloc::{AllocError, Global};
 use std::thread::Threads;
@@ -278,7 +279,11 @@ fn put_and_read<H: Threads + Sync, R: CountedRead>(
         ensures read { IfErr result (λ fault. fault ≡ ColumnFault.Read
             → HasRisen (R.failures reader.entry.now) (R.failures reader.exit.now)) }
         ensures counts { R.failures reader.entry.now ≤ R.failures reader.exit.now }
-    { read_on(reader, spare, limit) };
+    {
+        // The other thread starts more. Linux may keep it waiting while this one is at work, up to four milliseconds.
+        thread::yield_now();
+        read_on(reader, spare, limit)
+    };
     if is_alone {
         return (put(), read());
     }

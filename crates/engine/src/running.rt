@@ -34,9 +34,8 @@ use std::thread::Threads;
 /// is refused before its jobs all the same.
 ///
 /// The cells of the columns, the job file and the report are each held in memory once. While the cells are read, the
-/// bytes of a column file of at most 2 MiB for each thread, and 16 MiB in all, are held whole, of a longer one twice
-/// that many, or all that are left from a row with quotes on; the cells of one piece for each thread are held
-/// beside.
+/// bytes of a column file of at most 1 MiB for each thread, and 16 MiB in all, are held whole, of a longer one twice
+/// that many, or all that are left from a row with quotes on; the cells of that many bytes are held beside.
 pub fn run<
     H: Threads + Wait + Sync,
     C: CountedRead,

@@ -17,11 +17,8 @@ use std::alloc::{AllocError, Global};
 use std::thread::Threads;
 use stream_tokens::{JobTexts, version_within};
 
-/// How many bytes of a column file one thread reads at a time, at most.
-const PIECE: usize = 2 * 1024 * 1024;
-
-/// How many bytes all threads read at a time, at most.
-const ROUND: usize = 8 * PIECE;
+/// How many bytes of a column file a thread parses at a time.
+const PIECE: usize = 256 * 1024;
 
 /// Whether how a column file is read depends on the job file.
 pub(crate) fn reads_by_jobs(settings: &Settings) -> bool
@@ -60,7 +57,6 @@ pub(crate) fn read_table<H: Threads + Sync, C: CountedRead>(
         → HasRisen (C.failures reader.old) (C.failures reader.new)) }
 {
     let workers = settings.workers() as usize;
-    let piece = PIECE.min(ROUND / workers);
     let table = settings.table();
     let form = TableForm {
         separator: table.separator,
@@ -68,5 +64,5 @@ pub(crate) fn read_table<H: Threads + Sync, C: CountedRead>(
         names,
         blank: table.blank,
     };
-    read_columns_as(rt, alloc, reader, workers, piece, &form)
+    read_columns_as(rt, alloc, reader, workers, PIECE, &form)
 }

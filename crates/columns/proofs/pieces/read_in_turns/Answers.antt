@@ -14,9 +14,9 @@ loop-preserved g c =
     let text = c.args.text.now in
     let columns = map named c.loop.columns in
     let read = c.pieces_in_line-count.ensures.read c.args.layout.now columns
-    (rw (length-map c.loop.columns named) c.read_pieces.ensures) in
+    (rw (length-map c.loop.columns named) c.read_turn.ensures) in
     let put : map named c.put_pieces.new.columns
-    ≡ append_pieces columns (take c.pieces_in_line-count.result.0 c.read_pieces.new.pieces) = search rules in (
+    ≡ append_pieces columns (take c.pieces_in_line-count.result.0 c.read_turn.new.pieces) = search rules in (
       search (rules, length-drop),
       search rules,
       AreReadIn-join _ _ _ _ _ _ _ _ _ so_far

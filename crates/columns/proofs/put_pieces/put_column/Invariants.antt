@@ -1,7 +1,7 @@
 use Rattle.std.proofs.Common.{◌≡◌, false, take}
 use Rattle.columns.specs.Pieces.{with_pieces}
 use Rattle.tables.specs.TableOfColumns.{named}
-use Rattle.columns.proofs.pieces.put_column.Given as goal
+use Rattle.columns.proofs.put_pieces.put_column.Given as goal
 
 -- the cells of the pieces so far are put
 abbrev pub invariant-loop-piece : goal.invariant-loop-piece

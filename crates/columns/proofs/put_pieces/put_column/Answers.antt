@@ -2,7 +2,7 @@ use Rattle.std.proofs.Common.{◌≡◌, ◌∙◌, ◌++◌, map, rules, sym, a
 use Rattle.columns.specs.Pieces.{cells_at}
 use Rattle.tables.specs.TableOfColumns.{named}
 use Rattle.columns.proofs.PieceLemmas.{cells_there, put_more}
-use Rattle.columns.proofs.pieces.put_column.Goals as goal
+use Rattle.columns.proofs.put_pieces.put_column.Goals as goal
 
 pub loop-piece-preserved : goal.loop-piece-preserved
 loop-piece-preserved c =
