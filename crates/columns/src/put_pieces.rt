@@ -26,7 +26,7 @@ pub(crate) fn put_pieces<H: Threads + Sync>(
 }
 
 /// Puts the cells of all pieces under these columns, whose first one has this place, `size` columns on each thread;
-/// those that are whole after it have all of their cells. This thread waits, as that of `read_pieces` does.
+/// those that are whole after it have all of their cells. This thread starts the others, and waits.
 #[cycle(put)]
 fn put_columns<H: Threads + Sync>(
     rt: &H,

@@ -58,7 +58,7 @@ pub fn read_columns<R: CountedRead>(alloc: Global, reader: &mut R) -> Result<Col
 ///
 /// The file is read in rounds: of each worker four pieces of some `piece` bytes, cut after line feeds. While the pieces
 /// of one round are parsed, the bytes of the next one are read. A file of no more than a round is read whole first. Of
-/// a longer file only these are held: the bytes of two rounds, the cells of one, and 8 bytes for each cell.
+/// a longer file only these are held: the bytes of two rounds, room for their cells, and 8 bytes for each cell.
 ///
 /// In each round threads are started twice: to parse its pieces, and to put the cells under the columns. One worker
 /// reads and parses in turns: for it, and for a file of less than two pieces, no thread is started. If a row isn't

@@ -46,7 +46,7 @@ struct Rounds {
     spare: Vec<u8>,
     /// How many bytes a round has at most, if a line isn't longer.
     limit: usize,
-    /// How many bytes a piece has at least.
+    /// How many bytes a piece has, up to the end of a line.
     piece: usize,
     /// None if one thread does all.
     pieces: Vec<TextPiece>,
